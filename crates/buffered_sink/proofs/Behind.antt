@@ -3,10 +3,7 @@ use Rattle.std.proofs.{Common.{◌≡◌, ℕ, ◌≤◌, List, [], length, take
 use Rattle.std.{proofs.lemmas.Bool.{false≢true}, specs.{Prelude.{OnOk, OnErr}, Result.{IsErr}}}
 use Rattle.perf_io.specs.{Outside.{Adds, Rose, SinkShows}, Wrote.{Wrote}, declared.outside.Failed.{Failed}}
 use Rattle.buffered_sink.{specs.Rooms.{with_room, Grew}, proofs.Rooms.{added_behind, front_of_front}}
-
-rose_after : (last : Option ℕ) (f g h : ℕ) → f ≤ g → Rose last g h → Rose last f h
-rose_after last f g h l (inl more) = inl (omega arith)
-rose_after last f g h l (inr end) = inr end
+use Rattle.perf_io.proofs.Wrote.{Rose-before}
 
 -- the room was empty before
 from_start : (start a both : Option (List ℕ)) (before text : List ℕ) → a ≡ start → before ≡ [] → Adds (with_room start a before) both text → Adds (with_room start start []) both text
@@ -53,5 +50,5 @@ module _ {K : Type 0} {shows : SinkShows K} where
       subst (Adds (with_room start (shows.held a) before) (with_room start (shows.held b) room)) (sym (take-length text)) q in
       record {
         count = omega (arith, j, k);
-        written = (rose_after shows.last_fault (shows.faults a) (shows.faults m) (shows.faults b) j w, front_at start (shows.held a) (shows.held b) before room text (length text) e z g (omega arith) t);
+        written = (Rose-before shows.last_fault (shows.faults a) (shows.faults m) (shows.faults b) j w, front_at start (shows.held a) (shows.held b) before room text (length text) e z g (omega arith) t);
       }

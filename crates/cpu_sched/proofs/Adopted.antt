@@ -14,9 +14,10 @@ use Rattle.world_spec.proofs.{Copies.{times-at}, GoneStage.{AreLeading}, Keys.{k
 use Rattle.world_spec.proofs.{Listings.{reached_leaders, reached-once, reached-context, reached-leading}, Moving.{leads-parts}}
 use Rattle.world_spec.proofs.Rescheduling.{same-id}
 use Rattle.cpu_sched.specs.{Adopting.{with_standings, told_standings, out_standings}, Briefs.{present_brief}, Judging.{retold}}
-use Rattle.cpu_sched.{specs.Plans.{Planned, IsPlanOf}, proofs.Judged.{reached-there, is-number}}
+use Rattle.cpu_sched.{specs.Plans.{Planned, IsPlanOf}, proofs.Judged.{reached-there}}
 use Rattle.cpu_sched.proofs.{Relabelled.{id_at, eligible_leaders, present-leaders, present-seated, present-standings}, Telling.{stand_at}}
 use Rattle.cpu_sched.proofs.Told.{last_told, last-none, last-out, out-append, told-at}
+use Rattle.world_spec.proofs.Tables.{same_number}
 
 -- the keys of a plan are leaders that the processor reaches, each once
 abbrev keys_of_plan : Planned → List Key
@@ -79,12 +80,12 @@ told-by-id : (w : World) → IsKept w.hardware w → (xs : List (Key × Standing
 told-by-id w kept [] all once k lead = last-empty k standing.Out ∙ sym (none-by (id_at w k))
 told-by-id w kept (x ∷ xs) all once k lead =
     let keys : List Key = map (λ y. y.0) xs in
-    let own : is_key x.0 x.0 ≡ true = is-number x.0.0 x.0.0 refl in
+    let own : is_key x.0 x.0 ≡ true = same_number x.0.0 x.0.0 refl in
     let lead_x : leads (post_at w) x.0 ≡ true = all x.0 (omega (arith, times-cons x.0 x.0 keys, once-true (is_key x.0 x.0) own)) in
     elim (cases_Bool (is_key k x.0)) [
       | inl e ↦
           let same : x.0 ≡ k = key-is x.0 k (is_key-true k x.0 e) in
-          let ids : (id_at w x.0 == id_at w k) ≡ true = is-number (id_at w x.0) (id_at w k) (ap (id_at w) same) in
+          let ids : (id_at w x.0 == id_at w k) ≡ true = same_number (id_at w x.0) (id_at w k) (ap (id_at w) same) in
           last-next x xs k standing.Out true e
           ∙ (last-none xs k x.1 (omega (arith, once k, times-cons k x.0 keys, once-true (is_key k x.0) e)) ∙ sym (by-id w k x xs true ids))
       | inr e ↦

@@ -10,8 +10,9 @@ use Rattle.world_spec.specs.{Kept.{leads, post_at, IsKept}, Listings.{pass_leade
 use Rattle.world_spec.{specs.Value.{World, entry_at, instance_at, is_live, is_key}, proofs.{Copies.{times-at}, GoneStage.{AreLeading}}}
 use Rattle.world_spec.proofs.{Keys.{times-cons, once-true}, Listings.{reached_leaders, reached-leading}, Moving.{leads-parts}}
 use Rattle.cpu_sched.specs.Briefs.{groups_in, events_in, brief_at, briefs_at, present_brief, IsGroupBrief, IsBrief}
-use Rattle.cpu_sched.proofs.{Briefs.{by-members, members-live}, Judged.{is-number}}
+use Rattle.cpu_sched.proofs.Briefs.{by-members, members-live}
 use Rattle.cpu_sched.proofs.Served.{slots, held, held-parts, held-one, slots-of, held-reached}
+use Rattle.world_spec.proofs.Tables.{same_number}
 
 -- Slots below 256 of which each stands once at most are 256 at most.
 one_if-less : (x n : ℕ) → as_number (nat_lt x (suc n)) ≡ as_number (nat_lt x n) + as_number (x == n)
@@ -131,7 +132,7 @@ briefs-low : (w : World) (cpu : CpuNo) → IsKept w.hardware w → (keys : List 
 briefs-low w cpu kept [] all = λ k d low. absurd (omega (arith, low))
 briefs-low w cpu kept (k ∷ keys) all =
     let rest : List Key = filter (λ q. is_eligible w.hardware cpu (group_at w q)) keys in
-    let own : is_key k k ≡ true = is-number k.0 k.0 refl in
+    let own : is_key k k ≡ true = same_number k.0 k.0 refl in
     let lead : leads (post_at w) k ≡ true = all k (omega (arith, times-cons k k keys, once-true (is_key k k) own)) in
     let others : All (λ event. event.0.0 < 256) (events_in (map (brief_at w) rest)) = briefs-low w cpu kept keys (λ q some. all q (omega (arith, some, times-cons q k keys))) in
     elim (cases_Bool (is_eligible w.hardware cpu (group_at w k))) [

@@ -10,12 +10,9 @@ use Rattle.stage_spec.specs.{Hardware.{Hardware, IsHardware, is_software, mask_o
 use Rattle.stage_spec.specs.{Stage.{Group, members_of}, Tight.{masks_of}, Verdict.{is_eligible, with_masks}}
 use Rattle.world_spec.specs.{Kept.{leads, post_at, once_if, IsKept}, StageOf.{group_at}, Value.{World, entry_at, instance_at, is_live, is_key, times}}
 use Rattle.world_spec.proofs.{Copies.{times-at}, Families.{group-members}, Moving.{leads-parts}}
+use Rattle.perf_world.proofs.Gone.{counted}
 
 -- the members of a group are there
-counted : (a b : Bool) → 1 ≤ once_if (a && b) → a ≡ true
-counted true b h = refl
-counted false b h = absurd (omega (arith, h))
-
 pub members-live : (hw : Hardware) (w : World) (k : Key) (keys : List Key) → IsKept hw w → keys ≡ (entry_at w k).members → All (λ q. is_live w q ≡ true) keys
 members-live hw w k keys h is i d low =
     let q : Key = slice_index_or keys i d in

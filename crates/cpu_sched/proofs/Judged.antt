@@ -13,6 +13,9 @@ use Rattle.world_spec.specs.{StageOf.{group_at, stage_of}, Value.{World, leaders
 use Rattle.world_spec.proofs.Families.{leaders_both, leaders-at}
 use Rattle.world_spec.proofs.Listings.{passes-are, reached_leaders, reached-once, reached-context, reached-leading}
 use Rattle.cpu_sched.{specs.{declared.judging.SoFar.{SoFar}, Judging.{tally_in, tell_pass, retold}}, proofs.Telling.{Stands, passes-told}}
+use Rattle.world_spec.proofs.Tables.{same_number}
+use Rattle.world_spec.proofs.Coming.{number_true}
+use Rattle.stage_laws.proofs.Briefs.{filter-one, filter-both, counted-on}
 
 -- A leader in one of a processor's contexts is among those that it reaches.
 led-here : (live here : Bool) → live ≡ true → here ≡ true → once_if (live && here) ≡ 1
@@ -24,24 +27,18 @@ parts-reached : (w : World) (cpu : CpuNo) (q : Key)
     → times q (reached_leaders w cpu) ≡ times q (leaders_both (leaders_of w (context.Processor cpu))) + times q (leaders_both (task_leaders w (task_on (stage_of w) cpu)))
 parts-reached w cpu q = grind (arith, nat_tests, count-append)
 
-pub same-number : (m n : ℕ) → (m == n) ≡ true → m ≡ n
-same-number m n h = grind (arith, nat_tests, h)
-
-pub is-number : (m n : ℕ) → m ≡ n → (m == n) ≡ true
-is-number m n h = grind (arith, nat_tests, h)
-
 in-task : (hw : Hardware) (w : World) → IsKept hw w → (q : Key) → leads (post_at w) q ≡ true → (task : TaskNo) → (entry_at w q).context ≡ context.Task task → (o : Option TaskNo) → is_task o task ≡ true
     → times q (leaders_both (task_leaders w o)) ≡ 1
 in-task hw w h q lead task at None is = absurd (false≢true is)
 in-task hw w h q lead task at (Some other) is =
     leaders-at hw w h q (8 + other.0)
     ∙ led-here (leads (post_at w) q) (place_of (entry_at w q).context == 8 + other.0) lead
-    (is-number (place_of (entry_at w q).context) (8 + other.0) (ap place_of at ∙ ap (λ n. 8 + n) (sym (same-number other.0 task.0 is))))
+    (same_number (place_of (entry_at w q).context) (8 + other.0) (ap place_of at ∙ ap (λ n. 8 + n) (sym (number_true other.0 task.0 is))))
 
 reached-by : (hw : Hardware) (w : World) (cpu : CpuNo) → IsKept hw w → (q : Key) → leads (post_at w) q ≡ true → (c : Context) → (entry_at w q).context ≡ c
     → has_context (stage_of w) cpu c ≡ true → 1 ≤ times q (reached_leaders w cpu)
 reached-by hw w cpu h q lead (context.Processor other) at has =
-    let same : place_of (entry_at w q).context ≡ place_of (context.Processor cpu) = ap place_of at ∙ ap (λ n. if nat_lt n 8 then n else 72) (same-number other.0 cpu.0 has) in
+    let same : place_of (entry_at w q).context ≡ place_of (context.Processor cpu) = ap place_of at ∙ ap (λ n. if nat_lt n 8 then n else 72) (number_true other.0 cpu.0 has) in
     grind (arith, parts-reached w cpu q, leaders-at hw w h q (place_of (context.Processor cpu)))
 reached-by hw w cpu h q lead (context.Task task) at has = omega (arith, parts-reached w cpu q, in-task hw w h q lead task at (task_on (stage_of w) cpu) has)
 
@@ -50,22 +47,6 @@ pub reached-there : (hw : Hardware) (w : World) (cpu : CpuNo) → IsKept hw w �
 reached-there hw w cpu h q lead has = reached-by hw w cpu h q lead (entry_at w q).context refl has
 
 -- The hardware instances that are on are the members that need counters of the groups that are on.
-filter-one : (b : Bool) (p q : Instance → Bool) (x : Instance) (xs : List Instance) → p x ≡ b → filter q (filter p xs) ≡ filter (λ y. p y && q y) xs
-    → filter q (filter p (x ∷ xs)) ≡ filter (λ y. p y && q y) (x ∷ xs)
-filter-one true p q x xs e rest = grind (arith, nat_tests)
-filter-one false p q x xs e rest = grind (arith, nat_tests)
-
-filter-both : (p q : Instance → Bool) (xs : List Instance) → filter q (filter p xs) ≡ filter (λ x. p x && q x) xs
-filter-both p q [] = refl
-filter-both p q (x ∷ xs) = filter-one (p x) p q x xs refl (filter-both p q xs)
-
-counted-on : (gs : List Group) → flat_map counted_members gs ≡ filter is_hardware (flat_map (λ g. filter (λ i. is_ready i.own) (members_of g)) gs)
-counted-on [] = refl
-counted-on (g ∷ gs) =
-    let ready : List Instance = filter (λ i. is_ready i.own) (members_of g) in
-    let rest : List Instance = flat_map (λ x. filter (λ i. is_ready i.own) (members_of x)) gs in
-    (λ i. sym (filter-both (λ x. is_ready x.own) is_hardware (members_of g)) i ++ counted-on gs i) ∙ sym (filter-append is_hardware ready rest)
-
 -- all leaders of a processor are told
 abbrev pub all_verdicts : World → CpuNo → List Judged
 all_verdicts v cpu = judge_passes v.hardware [] (map (filter (is_eligible v.hardware cpu)) (map (map (group_at v)) (pass_leaders v cpu)))

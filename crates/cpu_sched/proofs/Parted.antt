@@ -31,7 +31,7 @@ pub record HasParts (b : ProcessorBrief) (p q r s : List (GroupBrief Key)) : Typ
   pub once : (e : EventNo) → slots e (events_in p) + (slots e (events_in q) + (slots e (events_in r) + slots e (events_in s))) ≤ 1
   pub few : length p + (length q + (length r + length s)) ≤ 256
 
-slots-parts : (e : EventNo) (xs ys : List (GroupBrief Key)) → slots e (events_in (xs ++ ys)) ≡ slots e (events_in xs) + slots e (events_in ys)
+pub slots-parts : (e : EventNo) (xs ys : List (GroupBrief Key)) → slots e (events_in (xs ++ ys)) ≡ slots e (events_in xs) + slots e (events_in ys)
 slots-parts e xs ys = ap (slots e) (flat_map-append (λ g. g.counted) xs ys) ∙ count-append (λ event. event.0.0 == e.0) (events_in xs) (events_in ys)
 
 parts-of : (counters : ℕ) (p q r s : List (GroupBrief Key)) → IsBrief (record { counters = counters; passes = p ∷ q ∷ r ∷ s ∷ [] })

@@ -8,15 +8,12 @@ use Rattle.counter_match.specs.Seating.{Seated, empty_seating}
 use Rattle.world_spec.specs.{Changes.{with_seats}, Listings.{pass_leaders}, StageOf.{group_at}, Value.{World, seats_at}}
 use Rattle.cpu_sched.specs.{declared.judging.SoFar.{SoFar}, Judging.{tally_in, tell, told_of, tell_pass, retold, IsTold}}
 use Rattle.cpu_sched.{specs.Passes.{AreOfTold, told_before}, proofs.{Served.{told-push}, Telling.{told_all}}}
+use Rattle.perf_world.proofs.Tables.{set-again}
+use Rattle.perf_world.proofs.Turning.{take-next}
 
 -- a world is itself with its own seats, and a second change takes the place of the first
 pub retold-self : (cpu : CpuNo) (w : World) → w ≡ retold cpu w w
 retold-self cpu w = sym (ap (λ seats. record w { quiet = record w.quiet { seats = seats } }) (set-get_or w.quiet.seats cpu.0 (empty_seating 0)))
-
-set-again : {X : Type 0} (xs : List X) (i : ℕ) (a b : X) → slice_set (slice_set xs i a) i b ≡ slice_set xs i b
-set-again [] i a b = refl
-set-again (x ∷ xs) zero a b = refl
-set-again (x ∷ xs) (suc i) a b = ap (λ ys. x ∷ ys) (set-again xs i a b)
 
 pub retold-twice : (cpu : CpuNo) (v w x : World) → w ≡ retold cpu v w → x ≡ retold cpu w x → x ≡ retold cpu v x
 retold-twice cpu v w x first second = grind (arith, set-again)
@@ -40,9 +37,6 @@ events-then cpu v w x f g told k same before now =
 -- the lists of a pass, and those before the next one
 pub retold-list : (cpu : CpuNo) (v w : World) (pass : ℕ) (keys : List Key) → w ≡ retold cpu v w → keys ≡ slice_index_or (pass_leaders w cpu) pass [] → keys ≡ slice_index_or (pass_leaders v cpu) pass []
 retold-list cpu v w pass keys same is = is ∙ ap (λ (y : World). slice_index_or (pass_leaders y cpu) pass []) same
-
-pub next-key : (keys : List Key) (place : ℕ) (d : Key) → place < length keys → take (place + 1) keys ≡ take place keys ++ slice_index_or keys place d ∷ []
-next-key keys place d low = grind (arith, take-suc)
 
 pub told-next : (w : World) (cpu : CpuNo) (pass : ℕ) → pass < 4 → told_before w cpu (pass + 1) ≡ told_before w cpu pass ++ slice_index_or (pass_leaders w cpu) pass []
 told-next w cpu pass low =

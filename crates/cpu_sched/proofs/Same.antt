@@ -5,14 +5,16 @@ use Rattle.std.proofs.lemmas.List.{get_or-map, length-map, length-take, map-appe
 use Rattle.perf_base.specs.declared.numbers.{EventNo.{EventNo}, Key.{Key}}
 use Rattle.stage_laws.specs.Briefs.{GroupBrief}
 use Rattle.world_spec.proofs.Moving.{leads-parts}
-use Rattle.cpu_sched.{specs.{declared.group_brief.GroupBrief.{GroupBrief as Stored}, Briefs.{seen}}, proofs.Judged.{same-number, is-number}}
+use Rattle.cpu_sched.specs.{declared.group_brief.GroupBrief.GroupBrief as Stored, Briefs.{seen}}
+use Rattle.world_spec.proofs.Tables.{same_number}
+use Rattle.world_spec.proofs.Coming.{number_true}
 
 pub event-decides : (a b : EventNo × ℕ) → Decides (a.0.0 == b.0.0 && a.1 == b.1) (a ≡ b)
 event-decides a b = (
   λ h.
       let parts : ((a.0.0 == b.0.0) ≡ true) × ((a.1 == b.1) ≡ true) = leads-parts (a.0.0 == b.0.0) (a.1 == b.1) h in
-      λ i. (record { 0 = same-number a.0.0 b.0.0 parts.0 i }, same-number a.1 b.1 parts.1 i),
-  λ e. subst (λ c. (a.0.0 == c.0.0 && a.1 == c.1) ≡ true) e (λ i. is-number a.0.0 a.0.0 (λ j. a.0.0) i && is-number a.1 a.1 (λ j. a.1) i),
+      λ i. (record { 0 = number_true a.0.0 b.0.0 parts.0 i }, number_true a.1 b.1 parts.1 i),
+  λ e. subst (λ c. (a.0.0 == c.0.0 && a.1 == c.1) ≡ true) e (λ i. same_number a.0.0 a.0.0 (λ j. a.0.0) i && same_number a.1 a.1 (λ j. a.1) i),
 )
 
 -- equal lists are equal at each place, and lists that are equal up to a place and there are so up to the next

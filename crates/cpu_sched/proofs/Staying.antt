@@ -14,7 +14,10 @@ use Rattle.world_spec.specs.Value.{World, is_live, entry_at, instance_at, standi
 use Rattle.world_spec.proofs.{Failing.{failed_instance, are-failed, failed-rest, AllLead, failed-posts}, GoneLeaderStage.{map-within}}
 use Rattle.world_spec.proofs.{Keys.{key-is, is_key-true, times-cons}, Listings.{passes-are, reached_leaders, reached-context, reached-leading}}
 use Rattle.world_spec.proofs.{Moving.{leads-parts}, Standing.{left-untouched}}
-use Rattle.cpu_sched.{specs.{Judging.{retold}, Resched.{StaysBut}}, proofs.Judged.{same-number}}
+use Rattle.cpu_sched.specs.{Judging.{retold}, Resched.{StaysBut}}
+use Rattle.world_spec.proofs.Along.{once-both}
+use Rattle.world_spec.proofs.Coming.{number_true}
+use Rattle.stage_laws.proofs.Tasks.{is_task-some}
 
 -- the pinned leaders of a processor are some that it reaches
 pinned-reached : (w : World) (cpu : CpuNo) (q : Key) → times q (pinned_leaders w cpu) ≤ times q (reached_leaders w cpu)
@@ -24,13 +27,9 @@ pinned-lead : (hw : Hardware) (w : World) (cpu : CpuNo) → IsKept hw w → AllL
 pinned-lead hw w cpu h q some = reached-leading hw w h cpu q (omega (arith, some, pinned-reached w cpu q))
 
 -- Two processors have no context in common.
-one-number : (o : Option TaskNo) (task : TaskNo) → is_task o task ≡ true → o ≡ Some task
-one-number None task is = absurd (false≢true is)
-one-number (Some other) task is = ap (λ n. Some (record { 0 = n })) (same-number other.0 task.0 is)
-
 one-processor : (w : World) (cpu other : CpuNo) (c : Context) → AreRunning (stage_of w) → has_context (stage_of w) cpu c ≡ true → has_context (stage_of w) other c ≡ true → cpu.0 ≡ other.0
-one-processor w cpu other (context.Processor n) h first second = sym (same-number n.0 cpu.0 first) ∙ same-number n.0 other.0 second
-one-processor w cpu other (context.Task task) h first second = grind (arith, one-number)
+one-processor w cpu other (context.Processor n) h first second = sym (number_true n.0 cpu.0 first) ∙ number_true n.0 other.0 second
+one-processor w cpu other (context.Task task) h first second = grind (arith, is_task-some)
 
 -- groups that go to error change entries and standings
 one-shape : (s : Standing) (w : World) (k : Key) → fail_by s k w ≡ record w { entries = (fail_by s k w).entries; standings = (fail_by s k w).standings }
@@ -128,17 +127,13 @@ not-here : (hw : Hardware) (v : World) (cpu other : CpuNo) → IsKept hw v → o
     → has_context (stage_of v) cpu (entry_at v q).context ≡ false
 not-here hw v cpu other h apart q has = grind (arith, one-processor)
 
-once-some : (b : Bool) → 1 ≤ once_if b → b ≡ true
-once-some true h = refl
-once-some false h = absurd (omega (arith, h))
-
 -- a sibling stands in its leader's context
 sibling-there : (hw : Hardware) (v : World) (other : CpuNo) (q j : Key) → IsKept hw v → leads (post_at v) q ≡ true → 1 ≤ times j (after_first (entry_at v q).members)
     → has_context (stage_of v) other (entry_at v q).context ≡ true → has_context (stage_of v) other (entry_at v j).context ≡ true
 sibling-there hw v other q j h lead some has =
     let more : 1 ≤ once_if (is_member_of (post_at v) q j) =
     omega (arith, some, h.linked.members j q, ap (times j) (h.grouped.leader_first q lead), times-cons j q (after_first (entry_at v q).members)) in
-    let member : (is_live v j ≡ true) × (is_key q (entry_at v j).leader ≡ true) = leads-parts (is_live v j) (is_key q (entry_at v j).leader) (once-some (is_member_of (post_at v) q j) more) in
+    let member : (is_live v j ≡ true) × (is_key q (entry_at v j).leader ≡ true) = leads-parts (is_live v j) (is_key q (entry_at v j).leader) (once-both (is_member_of (post_at v) q j) more) in
     let leader : (entry_at v j).leader ≡ q = key-is (entry_at v j).leader q (is_key-true q (entry_at v j).leader member.1) in
     ap (has_context (stage_of v) other) (sym (h.grouped.together j member.0) ∙ ap (λ k. (entry_at v k).context) leader) ∙ has
 

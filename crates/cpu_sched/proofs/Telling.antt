@@ -14,9 +14,10 @@ use Rattle.stage_laws.proofs.{Counts.{count-cons, count-append, count-filter}, L
 use Rattle.world_spec.specs.{Kept.{leads, post_at, IsKept}, StageOf.{group_at}, Value.{World, instance_at, is_key, times}}
 use Rattle.world_spec.proofs.{Keys.{key-is, is_key-same, is_key-other, times-push, once-true, once-false}, GoneStage.{AreLeading}}
 use Rattle.world_spec.proofs.Listings.{count-none}
-use Rattle.world_spec.proofs.Rescheduling.{is_led, is_about, about-groups, own_id, among-none, among-later, among-cons, same-id}
+use Rattle.world_spec.proofs.Rescheduling.{is_led, is_about, about-groups, own_id, among-none, among-later, among-cons, same-id, count-leaders}
 use Rattle.world_spec.proofs.Tables.{get-here, get-there}
 use Rattle.cpu_sched.specs.Judging.{Tally, first_or, events_next, told_of, with_told, tell, next_pass, tell_pass}
+use Rattle.world_spec.proofs.Standing.{with_masks-parts}
 
 -- the standing that a table has at a key
 abbrev pub stand_at : FinMap nat_cmp Standing → Key → Standing
@@ -53,14 +54,11 @@ named-push : (test : Group → Bool) (js : List Judged) (g : Group) (s : Standin
 named-push test js g s = named-by test js g s (stands_on s) refl
 
 -- the events of the groups that are on
-masks-parts : (hw : Hardware) (xs ys : List Instance) → with_masks hw (xs ++ ys) ≡ with_masks hw xs ++ with_masks hw ys
-masks-parts hw xs ys = map-append (λ i. (i.event, mask_of hw i.attr.kind)) xs ys
-
 abbrev events_of_on : Hardware → List Group → List (EventNo × ℕ)
 events_of_on hw gs = with_masks hw (flat_map counted_members gs)
 
 events-push : (hw : Hardware) (gs : List Group) (g : Group) → events_of_on hw (gs ++ g ∷ []) ≡ events_of_on hw gs ++ with_masks hw (counted_members g)
-events-push hw gs g = grind (arith, flat_map-append, append-nil, masks-parts)
+events-push hw gs g = grind (arith, flat_map-append, append-nil, with_masks-parts)
 
 events-by : (hw : Hardware) (js : List Judged) (g : Group) (s : Standing) (b : Bool) → stands_on s ≡ b
     → events_of_on hw (groups_on (js ++ judged g s ∷ [])) ≡ (if b then events_of_on hw (groups_on js) ++ with_masks hw (counted_members g) else events_of_on hw (groups_on js))
@@ -85,12 +83,7 @@ told-out hw cpu g t out = grind arith
 pub told-in : (v : World) (cpu : CpuNo) (start : FinMap nat_cmp Standing) (told : List Key) (before within : List Judged) (t : Tally) (g : Group)
     → Stands v cpu start told before within t → is_eligible v.hardware cpu g ≡ true → told_of v.hardware cpu g t ≡ judge v.hardware before within g
 unfolding judge
-told-in v cpu start told before within t g h eligible = grind (arith, masks-parts)
-
--- groups of leaders by an id
-led-keys : (v : World) (id : ℕ) (keys : List Key) → count_by (is_led id) (map (group_at v) keys) ≡ count_by (λ q. (instance_at v q).id == id) keys
-led-keys v id [] = refl
-led-keys v id (q ∷ keys) = omega (arith, count-cons (is_led id) (group_at v q) (map (group_at v) keys), count-cons (λ p. (instance_at v p).id == id) q keys, led-keys v id keys)
+told-in v cpu start told before within t g h eligible = grind (arith, with_masks-parts)
 
 -- no verdict so far is about a leader that was not told
 not-about : (v : World) (cpu : CpuNo) (k : Key) (told : List Key) (js : List Judged) → IsKept v.hardware v → AreLeading v told → leads (post_at v) k ≡ true → times k told ≡ 0
@@ -102,7 +95,7 @@ not-about v cpu k told js kept all lead none groups =
       about-groups id js,
       ap (count_by (is_led id)) groups,
       count-filter (is_led id) (is_eligible v.hardware cpu) (map (group_at v) told),
-      led-keys v id told,
+      count-leaders v id told,
       count-none (λ q. (instance_at v q).id == id) told (λ q some same. omega (arith, some, none, ap (λ x. times x told) (same-id v.hardware v kept q k (all q some) lead same))),
     )
 

@@ -6,8 +6,9 @@ use Rattle.perf_base.specs.declared.{numbers.Key.{Key}, standing.Standing.{Stand
 use Rattle.perf_base.specs.declared.standing.Standing.TheVariants as standing
 use Rattle.world_spec.{specs.Value.{is_key, times}, proofs.Keys.{is_key-true, is_key-false, times-cons, once-true, once-false}}
 use Rattle.world_spec.proofs.Tables.{get-here, get-there}
-use Rattle.cpu_sched.{specs.{Adopting.{told_standings, out_standings}, Plans.{told_by}, declared.plan.Verdict.{Verdict}}, proofs.Retold.{next-key}}
+use Rattle.cpu_sched.specs.{Adopting.{told_standings, out_standings}, Plans.{told_by}, declared.plan.Verdict.{Verdict}}
 use Rattle.cpu_sched.proofs.Telling.{stand_at}
+use Rattle.perf_world.proofs.Turning.{take-next}
 
 -- the last that a key was told, or what it was before
 unfoldable pub last_told : List (Key × Standing) → Key → Standing → Standing
@@ -55,7 +56,7 @@ out-append xs ys t = grind (arith, map-append, fold-append)
 
 pub out-next : (keys : List Key) (place : ℕ) (d : Key) (t : FinMap nat_cmp Standing) → place < length keys
     → out_standings (take (place + 1) keys) t ≡ insert (out_standings (take place keys) t) (slice_index_or keys place d).0 standing.Out
-out-next keys place d t low = ap (λ ks. out_standings ks t) (next-key keys place d low) ∙ out-append (take place keys) (slice_index_or keys place d ∷ []) t
+out-next keys place d t low = ap (λ ks. out_standings ks t) (take-next keys place d low) ∙ out-append (take place keys) (slice_index_or keys place d ∷ []) t
 
 next-told : (xs : List Verdict) (place : ℕ) (d : Verdict) → place < length xs
     → told_by (take (place + 1) xs) ≡ told_by (take place xs) ++ ((slice_index_or xs place d).leader, (slice_index_or xs place d).standing) ∷ []

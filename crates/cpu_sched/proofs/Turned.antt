@@ -9,7 +9,7 @@ use Rattle.world_spec.{specs.{Kept.{leads, post_at}, StageOf.{group_at}, Value.{
 use Rattle.world_spec.proofs.{GoneStage.{AreLeading}, Moving.{leads-parts}}
 use Rattle.cpu_sched.specs.After.{hardware_goes_last, some_wait, turned_groups}
 use Rattle.cpu_sched.specs.Briefs.{events_in, seen, brief_at, briefs_at, IsGroupBrief, IsBrief}
-use Rattle.cpu_sched.{specs.declared.group_brief.GroupBrief.{GroupBrief as Stored}, proofs.{Parted.{HasParts, has-parts}, Served.{slots}}}
+use Rattle.cpu_sched.{specs.declared.group_brief.GroupBrief.GroupBrief as Stored, proofs.{Parted.{HasParts, has-parts, slots-parts}, Served.{slots}}}
 
 -- two lists of the same groups
 record SameGroups (xs ys : List (GroupBrief Key)) : Type 0 where
@@ -21,17 +21,14 @@ record SameGroups (xs ys : List (GroupBrief Key)) : Type 0 where
 itself : (xs : List (GroupBrief Key)) → SameGroups xs xs
 itself xs = record { all = λ n h. h; slots = λ e. refl; size = refl; events = refl }
 
-slots-parts : (e : EventNo) (xs ys : List (GroupBrief Key)) → slots e (events_in (xs ++ ys)) ≡ slots e (events_in xs) + slots e (events_in ys)
-slots-parts e xs ys = ap (slots e) (flat_map-append (λ g. g.counted) xs ys) ∙ count-append (λ event. event.0.0 == e.0) (events_in xs) (events_in ys)
-
 events-parts : (xs ys : List (GroupBrief Key)) → length (events_in (xs ++ ys)) ≡ length (events_in xs) + length (events_in ys)
 events-parts xs ys = ap length (flat_map-append (λ g. g.counted) xs ys) ∙ length-append (events_in xs) (events_in ys)
 
-goes-by : (g : GroupBrief Key) (groups : List (GroupBrief Key)) (b : Bool) → g.software ≡ b → hardware_goes_last (g ∷ groups) ≡ (if b then g ∷ hardware_goes_last groups else groups ++ g ∷ [])
+pub goes-by : (g : GroupBrief Key) (groups : List (GroupBrief Key)) (b : Bool) → g.software ≡ b → hardware_goes_last (g ∷ groups) ≡ (if b then g ∷ hardware_goes_last groups else groups ++ g ∷ [])
 unfolding hardware_goes_last
 goes-by g groups b e = ap (λ x. if x then g ∷ hardware_goes_last groups else groups ++ g ∷ []) e
 
-goes-none : hardware_goes_last [] ≡ []
+pub goes-none : hardware_goes_last [] ≡ []
 unfolding hardware_goes_last
 goes-none = refl
 

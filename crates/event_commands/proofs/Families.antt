@@ -19,12 +19,10 @@ use Rattle.world_spec.proofs.Standing.{left-untouched}
 use Rattle.event_commands.specs.{Changing.{family_keys, keys_named}, Closing.{HaveGone, IsClosed}, Reaching.{reaches_key}}
 use Rattle.event_commands.proofs.{Going.{drop-families, one-key, none-gone, one-gone, both-gone}, Named.{in-family, at-family}, Reached.{reaches-are}}
 use Rattle.event_commands.proofs.Targets.{original-in}
+use Rattle.world_spec.proofs.Along.{once-both}
+use Rattle.world_spec.proofs.Tables.{same_number}
 
 -- a copy of an original
-once-both : (b : Bool) → 1 ≤ once_if b → b ≡ true
-once-both true h = refl
-once-both false h = absurd (omega (arith, h))
-
 record IsCopyAt (w : World) (e : EventNo) (k : Key) : Type 0 where
   live : is_live w k ≡ true
   event : (instance_at w k).event ≡ e
@@ -174,13 +172,10 @@ closed-stage hw w new e h sound g =
 done-times : (w : World) (e : EventNo) (k : Key) → times k ((family_of w e).copies ++ in_option (family_of w e).original) ≡ times k (family_keys w e)
 done-times w e k = grind (arith, nat_tests, count-append)
 
-same-number : (m n : ℕ) → m ≡ n → (m == n) ≡ true
-same-number m n e = grind (arith, nat_tests, e)
-
 not-done : (hw : Hardware) (w : World) (e : EventNo) (k : Key) → IsKept hw w → is_of_family e (instance_at w k) ≡ false → times k ((family_of w e).copies ++ in_option (family_of w e).original) ≡ 0
 not-done hw w e k h off = elim (cases_eq (times k (family_keys w e)) 0) [
   | inl none ↦ done-times w e k ∙ none
-  | inr more ↦ grind (arith, nat_tests, in-family, more, false≢true, same-number)
+  | inr more ↦ grind (arith, nat_tests, in-family, more, false≢true, same_number)
 ]
 
 pub is-closed : (hw : Hardware) (w new : World) (e : EventNo) → IsKept hw w → HaveGone e ((family_of w e).copies ++ in_option (family_of w e).original) w new → family_of new e ≡ no_family → IsClosed e w new

@@ -5,16 +5,11 @@ use Rattle.perf_base.specs.declared.numbers.Key.{Key}
 use Rattle.stage_spec.specs.{declared.instance.Instance.{Instance}, Hardware.{Hardware}, Stage.{all_instances}}
 use Rattle.world_spec.specs.{Kept.{IsKept}, StageOf.{stage_of}, Value.{World, is_live, instance_at, times}}
 use Rattle.world_spec.proofs.{Counting.{any-there, any-key}, Families.{all_keys, times-keys, instances-are, key-lives}, Keys.{once-true}}
+use Rattle.world_spec.proofs.Coming.{number_true}
+use Rattle.world_spec.proofs.Moving.{leads-parts}
 
 pub is-number : (n : ℕ) → (n == n) ≡ true
 is-number n = grind (arith, nat_tests)
-
-number-is : (m n : ℕ) → (m == n) ≡ true → m ≡ n
-number-is m n h = grind (arith, nat_tests, h)
-
-both-true : (a b : Bool) → (a && b) ≡ true → (a ≡ true) × (b ≡ true)
-both-true true b h = (refl, h)
-both-true false b h = absurd (false≢true h)
 
 pub found-passes : (hw : Hardware) (w : World) (k : Key) (q : Instance → Bool) → IsKept hw w → is_live w k ≡ true
     → list_any (λ i. i.id == (instance_at w k).id && q i) (all_instances (stage_of w)) ≡ q (instance_at w k)
@@ -28,8 +23,8 @@ found-passes hw w k q h live =
         | inl some ↦
             let other : (j : Key) × (1 ≤ times j (all_keys w)) × (((instance_at w j).id == id && q (instance_at w j)) ≡ true) =
             any-key (λ i. i.id == id && q i) (instance_at w) (all_keys w) some in
-            let parts : (((instance_at w other.0).id == id) ≡ true) × (q (instance_at w other.0) ≡ true) = grind (arith, nat_tests, both-true) in
-            let same : other.0 ≡ k = h.numbered.once other.0 k (key-lives hw w h other.0 other.1) live (number-is (instance_at w other.0).id id parts.0) in
+            let parts : (((instance_at w other.0).id == id) ≡ true) × (q (instance_at w other.0) ≡ true) = grind (arith, nat_tests, leads-parts) in
+            let same : other.0 ≡ k = h.numbered.once other.0 k (key-lives hw w h other.0 other.1) live (number_true (instance_at w other.0).id id parts.0) in
             absurd (false≢true (sym fails ∙ (ap (λ x. q (instance_at w x)) (sym same) ∙ parts.1)))
         | inr none ↦ none ∙ sym fails
       ]

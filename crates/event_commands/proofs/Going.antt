@@ -14,6 +14,8 @@ use Rattle.world_spec.proofs.GoneLeader.{AreFreed, dropped-leader, entries_freed
 use Rattle.world_spec.proofs.{GoneLeaderStage.{map-within}, Keys.{key-is, is_key-same, is_key-other, is_key-true, once-true, once-false, times-cons}}
 use Rattle.world_spec.proofs.{Moving.{leads-parts}, Staying.{go-stays}, Tables.{get-here, get-there}}
 use Rattle.event_commands.specs.Closing.{HaveGone, IsThinned, stood}
+use Rattle.world_spec.proofs.WaysGone.{standing-left}
+use Rattle.perf_world.proofs.Turning.{both-times}
 
 -- groups that stand where they stood
 abbrev Stands : World → World → Key → Type 0
@@ -21,14 +23,6 @@ Stands w after q = (leads (post_at w) q ≡ true) × (standing_at after q ≡ st
 
 apart-live : (after : World) (k q : Key) → is_live after k ≡ false → is_live after q ≡ true → q.0 ≡ k.0 → ⊥
 apart-live after k q dead live same = false≢true (sym dead ∙ (ap (is_live after) (sym (key-is q k same)) ∙ live))
-
--- standings of keys that were not freed
-not-freed_standing : (keys : List Key) (m : FinMap nat_cmp Standing) (q : Key) → times q keys ≡ 0 → get (fold freed_standings m keys) q.0 ≡ get m q.0
-not-freed_standing [] m q none = refl
-not-freed_standing (k ∷ keys) m q none = elim (cases_eq q.0 k.0) [
-  | inl e ↦ absurd (omega (arith, none, times-cons q k keys, once-true (is_key q k) (is_key-same q k (sym e))))
-  | inr apart ↦ not-freed_standing keys (freed_standings m k) q (omega (arith, none, times-cons q k keys)) ∙ get-there m k.0 standing.Out q.0 apart
-]
 
 -- a leader that goes: its siblings are in its context, and all others stand where they stood
 leader-groups : (hw : Hardware) (w : World) (k q : Key) → IsKept hw w → leads (post_at w) k ≡ true → (q.0 ≡ k.0 → ⊥)
@@ -47,7 +41,7 @@ leader-groups hw w k q h lead apart leads_now away =
           absurd (away (ap (λ p. p.context) (d.freed q apart is) ∙ sym there))
       | inr off ↦ (
         ap (λ p. p.live && is_key q p.leader) (sym (d.others q apart off)) ∙ leads_now,
-        ap (λ o. unwrap_or o standing.Out) (get-left (standings_freed w k) k.0 q.0 apart ∙ not-freed_standing keys w.standings q (sib.others q apart ∙ once-false (is_member_of (post_at w) k q) off)),
+        ap (λ o. unwrap_or o standing.Out) (get-left (standings_freed w k) k.0 q.0 apart ∙ standing-left keys w.standings q (sib.others q apart ∙ once-false (is_member_of (post_at w) k q) off)),
       )
     ]
 
@@ -64,7 +58,7 @@ freed_standing [] m q some = absurd (omega (arith, some))
 freed_standing (k ∷ keys) m q some = elim (cases_eq (times q keys) 0) [
   | inr more ↦ freed_standing keys (freed_standings m k) q (omega (arith, more))
   | inl none ↦ elim (cases_eq q.0 k.0) [
-    | inl e ↦ not-freed_standing keys (freed_standings m k) q none ∙ get-here m k.0 standing.Out q.0 e
+    | inl e ↦ standing-left keys (freed_standings m k) q none ∙ get-here m k.0 standing.Out q.0 e
     | inr apart ↦ absurd (omega (arith, some, none, times-cons q k keys, once-false (is_key q k) (is_key-other q k (λ e. apart (sym e)))))
   ]
 ]
@@ -96,7 +90,7 @@ leader-standings hw w k q h lead apart leads_now =
     let sib : AreSiblings (post_at w) k keys = siblings-stand hw w k h lead in
     elim (cases_Bool (is_member_of (post_at w) k q)) [
       | inl is ↦ grind (arith, member-live, is, member-led, is_key-other, get-left, standings_freed, freed_standing, once-true, stood-new)
-      | inr off ↦ grind (arith, get-left, standings_freed, not-freed_standing, once-false, off, stood-leading)
+      | inr off ↦ grind (arith, get-left, standings_freed, standing-left, once-false, off, stood-leading)
     ]
 
 -- an instance that goes, with the tables that it leaves
@@ -179,15 +173,12 @@ stood-then w m q stands still = grind (arith, stood-leading, false≢true, stood
 thinned-twice : (w m n : World) → IsThinned w m → IsThinned m n → IsThinned w n
 thinned-twice w m n first second = grind arith
 
-split : (k : Key) (xs ys : List Key) → times k (xs ++ ys) ≡ times k xs + times k ys
-split k xs ys = count-append (is_key k) xs ys
-
 pub both-gone : (e : EventNo) (xs ys : List Key) (w m n : World) → HaveGone e xs w m → HaveGone e ys m n → ((k : Key) → 1 ≤ times k ys → times k xs ≡ 0) → HaveGone e (xs ++ ys) w n
 both-gone e xs ys w m n first second apart =
     let ids : map (λ k. (instance_at m k).id) ys ≡ map (λ k. (instance_at w k).id) ys =
     map-within (λ k. (instance_at m k).id) (λ k. (instance_at w k).id) ys (λ k some. ap (λ i. i.id) (first.instances k (apart k some))) in
-    let xs_none : (k : Key) → times k (xs ++ ys) ≡ 0 → times k xs ≡ 0 = λ k none. omega (arith, none, split k xs ys) in
-    let ys_none : (k : Key) → times k (xs ++ ys) ≡ 0 → times k ys ≡ 0 = λ k none. omega (arith, none, split k xs ys) in
+    let xs_none : (k : Key) → times k (xs ++ ys) ≡ 0 → times k xs ≡ 0 = λ k none. omega (arith, none, both-times k xs ys) in
+    let ys_none : (k : Key) → times k (xs ++ ys) ≡ 0 → times k ys ≡ 0 = λ k none. omega (arith, none, both-times k xs ys) in
     record {
       world = thinned-twice w m n first.world second.world;
       stage = second.stage
@@ -195,7 +186,7 @@ both-gone e xs ys w m n first second apart =
           ∙ (sym (fold-append (λ t id. drop_one id t) (stage_of w) (map (λ k. (instance_at w k).id) xs) (map (λ k. (instance_at w k).id) ys))
           ∙ ap (λ ns. drop_ones ns (stage_of w)) (sym (map-append (λ k. (instance_at w k).id) xs ys))));
       dead = λ k some. elim (cases_eq (times k ys) 0) [
-        | inl none ↦ second.live k none ∙ first.dead k (omega (arith, some, none, split k xs ys))
+        | inl none ↦ second.live k none ∙ first.dead k (omega (arith, some, none, both-times k xs ys))
         | inr more ↦ second.dead k (omega (arith, more))
       ];
       live = λ k none. second.live k (ys_none k none) ∙ first.live k (xs_none k none);
@@ -206,8 +197,8 @@ both-gone e xs ys w m n first second apart =
       groups = λ q lead away.
           let live : is_live n q ≡ true = (leads-parts (is_live n q) (is_key q (entry_at n q).leader) lead).0 in
           let stays : times q ys ≡ 0 = grind (arith, false≢true) in
-          let mid = second.groups q lead (λ k some is. away k (omega (arith, some, split k xs ys)) (is ∙ first.contexts k (apart k some))) in
-          let old = first.groups q mid.0 (λ k some is. away k (omega (arith, some, split k xs ys)) (second.contexts q stays ∙ is)) in
+          let mid = second.groups q lead (λ k some is. away k (omega (arith, some, both-times k xs ys)) (is ∙ first.contexts k (apart k some))) in
+          let old = first.groups q mid.0 (λ k some is. away k (omega (arith, some, both-times k xs ys)) (second.contexts q stays ∙ is)) in
           (old.0, mid.1 ∙ old.1);
       leading = λ q lead none. second.leading q (first.leading q lead (xs_none q none)) (ys_none q none);
       standings = λ q lead.

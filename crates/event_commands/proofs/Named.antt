@@ -7,6 +7,10 @@ use Rattle.stage_laws.proofs.Counts.{count-append}
 use Rattle.world_spec.{specs.{Value.{World, is_live, instance_at, is_key, times}, Kept.{once_if, IsKept}}, proofs.Accounts.{family-times}}
 use Rattle.world_spec.proofs.{Coming.{number_true}, Keys.{once-true}, Moving.{leads-parts}}
 use Rattle.event_commands.specs.Changing.{family_keys, keys_named}
+use Rattle.world_spec.proofs.Along.{once-both}
+use Rattle.world_spec.proofs.Tables.{same_number}
+use Rattle.world_spec.proofs.Added.{or-left}
+use Rattle.world_spec.proofs.Counting.{any-rest}
 
 both-kinds : (a b c : Bool) → once_if (a && b && not c) + once_if (a && b && c) ≡ once_if (a && b)
 both-kinds true true true = refl
@@ -18,31 +22,16 @@ both-kinds false b c = refl
 family-count : (hw : Hardware) (w : World) (e : EventNo) (k : Key) → IsKept hw w → times k (family_keys w e) ≡ once_if (is_live w k && (instance_at w k).event.0 == e.0)
 family-count hw w e k h = family-times w h.linked k e.0 ∙ both-kinds (is_live w k) ((instance_at w k).event.0 == e.0) (instance_at w k).copy
 
-some-once : (b : Bool) → 1 ≤ once_if b → b ≡ true
-some-once true h = refl
-some-once false h = absurd (omega (arith, h))
-
 pub in-family : (hw : Hardware) (w : World) (e : EventNo) (k : Key) → IsKept hw w → 1 ≤ times k (family_keys w e) → (is_live w k ≡ true) × ((instance_at w k).event.0 ≡ e.0)
-in-family hw w e k h some = grind (arith, nat_tests, some-once, family-count, leads-parts, number_true, some, family-count hw w e k h)
+in-family hw w e k h some = grind (arith, nat_tests, once-both, family-count, leads-parts, number_true, some, family-count hw w e k h)
 
 pub at-family : (hw : Hardware) (w : World) (e : EventNo) (k : Key) → IsKept hw w → is_live w k ≡ true → ((instance_at w k).event.0 == e.0) ≡ true → 1 ≤ times k (family_keys w e)
 at-family hw w e k h live same = grind (arith, nat_tests, family-count, once-true)
 
 -- and in some families where it is reached
-first-or : (a b : Bool) → a ≡ true → (a || b) ≡ true
-first-or true b h = refl
-first-or false b h = absurd (false≢true h)
-
 second-or : (a b : Bool) → b ≡ true → (a || b) ≡ true
 second-or true b h = refl
 second-or false b h = h
-
-either-or : (a b : Bool) → a ≡ false → (a || b) ≡ true → b ≡ true
-either-or true b off h = absurd (false≢true (sym off))
-either-or false b off h = h
-
-same-number : (m n : ℕ) → m ≡ n → (m == n) ≡ true
-same-number m n e = grind (arith, nat_tests, e)
 
 pub named-reached : (hw : Hardware) (w : World) (events : List EventNo) (k : Key) → IsKept hw w → 1 ≤ times k (keys_named w events)
     → (is_live w k ≡ true) × (is_reached events (instance_at w k) ≡ true)
@@ -51,7 +40,7 @@ named-reached hw w (e ∷ events) k h some = elim (cases_eq (times k (family_key
   | inl none ↦
       let rest = named-reached hw w events k h (omega (arith, some, none, count-append (is_key k) (family_keys w e) (keys_named w events))) in
       (rest.0, second-or ((instance_at w k).event.0 == e.0) (is_reached events (instance_at w k)) rest.1)
-  | inr more ↦ grind (arith, nat_tests, in-family, more, first-or, same-number)
+  | inr more ↦ grind (arith, nat_tests, in-family, more, or-left, same_number)
 ]
 
 pub reached-named : (hw : Hardware) (w : World) (events : List EventNo) (k : Key) → IsKept hw w → is_live w k ≡ true → is_reached events (instance_at w k) ≡ true → 1 ≤ times k (keys_named w events)
@@ -59,6 +48,6 @@ reached-named hw w [] k h live reached = absurd (false≢true reached)
 reached-named hw w (e ∷ events) k h live reached = elim (cases_Bool ((instance_at w k).event.0 == e.0)) [
   | inl same ↦ omega (arith, at-family hw w e k h live same, count-append (is_key k) (family_keys w e) (keys_named w events))
   | inr apart ↦
-      let rest = reached-named hw w events k h live (either-or ((instance_at w k).event.0 == e.0) (is_reached events (instance_at w k)) apart reached) in
+      let rest = reached-named hw w events k h live (any-rest ((instance_at w k).event.0 == e.0) (is_reached events (instance_at w k)) apart reached) in
       omega (arith, rest, count-append (is_key k) (family_keys w e) (keys_named w events))
 ]

@@ -9,7 +9,7 @@ use Rattle.stage_laws.{proofs.{OneByOne.{period-one}, Untouched.{period-briefs}}
 use Rattle.stage_laws.specs.Standings.{briefs}
 use Rattle.world_spec.specs.{Value.{World, is_live, instance_at, standing_at, seats_at, family_of}, StageOf.{stage_of}}
 use Rattle.world_spec.{specs.{Kept.{leads, post_at, IsKept}, Changes.{set_period}, Rescheduled.{IsUntouched}}, proofs.Families.{open-is, original-is}}
-use Rattle.world_spec.proofs.{Listings.{is-numbered}, Standing.{left-untouched}, Tables.{get-here, get-there, posts-same}}
+use Rattle.world_spec.proofs.{Listings.{is-numbered}, Standing.{left-untouched}, Tables.{get-here, get-there, posts-same, same_number, other_number}}
 use Rattle.event_commands.specs.Commands.{HasPeriod}
 
 -- the first of the three reasons
@@ -26,19 +26,13 @@ checks-are hw w e period o h is = grind (arith, nat_tests, open-is, original-is)
 pub no-event : (hw : Hardware) (w : World) (e : EventNo) (period : ℕ) → IsKept hw w → (family_of w e).original ≡ None → period_refusal (stage_of w) e period ≡ Some reason.NoEvent
 no-event hw w e period h none = checks-are hw w e period None h none
 
-same-number : (m n : ℕ) → m ≡ n → (m == n) ≡ true
-same-number m n e = grind (arith, nat_tests, e)
-
-other-number : (m n : ℕ) → (m ≡ n → ⊥) → (m == n) ≡ false
-other-number m n apart = grind (arith, nat_tests, apart)
-
 pub not-sampling : (hw : Hardware) (w : World) (e : EventNo) (period : ℕ) (k : Key) → IsKept hw w → (family_of w e).original ≡ Some k → (instance_at w k).attr.period ≡ 0
     → period_refusal (stage_of w) e period ≡ Some reason.NotSampling
-not-sampling hw w e period k h is zero = grind (arith, nat_tests, checks-are, same-number)
+not-sampling hw w e period k h is zero = grind (arith, nat_tests, checks-are, same_number)
 
 samples : (hw : Hardware) (w : World) (e : EventNo) (period : ℕ) (k : Key) (b : Bool) → IsKept hw w → (family_of w e).original ≡ Some k → ((instance_at w k).attr.period ≡ 0 → ⊥)
     → no_period period ≡ b → period_refusal (stage_of w) e period ≡ by_checks false false b
-samples hw w e period k b h is some known = grind (arith, nat_tests, checks-are, other-number)
+samples hw w e period k b h is some known = grind (arith, nat_tests, checks-are, other_number)
 
 pub zero-period : (hw : Hardware) (w : World) (e : EventNo) (period : ℕ) (k : Key) → IsKept hw w → (family_of w e).original ≡ Some k → ((instance_at w k).attr.period ≡ 0 → ⊥)
     → no_period period ≡ true → period_refusal (stage_of w) e period ≡ Some reason.ZeroPeriod
@@ -49,7 +43,7 @@ pub no-reason : (hw : Hardware) (w : World) (e : EventNo) (period : ℕ) (k : Ke
 no-reason hw w e period k h is some known = samples hw w e period k false h is some known
 
 pub some-period : (period : ℕ) → no_period period ≡ false → period ≢ 0
-some-period period known zero = false≢true (sym known ∙ ap (λ b. b || not (bit_and period (2 ^ 63) == 0)) (same-number period 0 zero))
+some-period period known zero = false≢true (sym known ∙ ap (λ b. b || not (bit_and period (2 ^ 63) == 0)) (same_number period 0 zero))
 
 -- on the stage, and on the accounts
 pub has-period : (hw : Hardware) (w new : World) (e : EventNo) (period : ℕ) (k : Key) → (family_of w e).original ≡ Some k → new ≡ set_period k period w → HasPeriod e period w new

@@ -8,6 +8,7 @@ use Rattle.perf_base.specs.declared.numbers.{CpuNo.{CpuNo}, CpuSet.{CpuSet}, Eve
 use Rattle.stage_spec.specs.Hardware.{has_cpu}
 use Rattle.world_spec.specs.{Value.{World}, Kept.{in_option}}
 use Rattle.event_commands.specs.{Changing.{family_keys, keys_named}, Reaching.{reaches_key, is_there, is_reaching, AreReaching, AddsReaching}}
+use Rattle.stage_spec.proofs.Recurrence.{or-false}
 
 -- one processor more
 one-more : (b n : ℕ) → n ≡ max b 1 → b < 2 → (n == 1) ≡ true
@@ -100,12 +101,8 @@ next-added w events place d a b c low first second =
     ∙ (flat_map-append (family_keys w) (take place events) (e ∷ []) ∙ ap (λ keys. done ++ keys) (append-nil (family_keys w e))))))
     (adds-append w done (family_keys w e) a b c first second)
 
-or-none : (b : Bool) → (b || false) ≡ b
-or-none true = refl
-or-none false = refl
-
 no-cpu : (cpu n : ℕ) → n ≡ 0 → (bit_at n cpu == 1) ≡ false
 no-cpu cpu n none = grind (arith, nat_tests, bit_at-zero)
 
 pub all-added : (w : World) (events : List EventNo) (place : ℕ) (a b : CpuSet) → length events ≤ place → a.0 ≡ 0 → AddsReaching w (keys_named w (take place events)) a b → AreReaching w (keys_named w events) b
-all-added w events place a b past none h cpu = grind (arith, nat_tests, take_all, no-cpu, or-none)
+all-added w events place a b past none h cpu = grind (arith, nat_tests, take_all, no-cpu, or-false)

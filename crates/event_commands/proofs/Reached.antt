@@ -16,6 +16,7 @@ use Rattle.world_spec.proofs.Keys.{key-is, is_key-same, is_key-true, once-true, 
 use Rattle.world_spec.proofs.{Listings.{passes-are, flat-mapped, reached_leaders, reached-context, reached-leading}, Moving.{leads-parts}}
 use Rattle.event_commands.specs.{Changing.{keys_named}, Commands.{AreReached}, Reaching.{reaches_key, is_there, AreReaching}}
 use Rattle.event_commands.proofs.Named.{named-reached, reached-named}
+use Rattle.world_spec.proofs.Along.{once-both}
 
 -- the keys that a processor reaches
 abbrev reached_keys : World → CpuNo → List Key
@@ -44,10 +45,6 @@ in-group w k q (m ∷ leaders) some member = elim (cases_Bool (is_key q m)) [
       let rest : 1 ≤ times k (flat_map (members_at w) leaders) = in-group w k q leaders (omega (arith, some, times-cons q m leaders, once-false (is_key q m) apart)) member in
       omega (arith, rest, count-append (is_key k) (members_at w m) (flat_map (members_at w) leaders))
 ]
-
-once-both : (b : Bool) → 1 ≤ once_if b → b ≡ true
-once-both true h = refl
-once-both false h = absurd (omega (arith, h))
 
 -- a leader in a context of the processor is among those of its passes
 abbrev four : Leaders → Leaders → List Key

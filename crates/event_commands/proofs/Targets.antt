@@ -10,6 +10,7 @@ use Rattle.world_spec.specs.{Kept.{once_if, IsKept}, StageOf.{stage_of}}
 use Rattle.world_spec.proofs.{Copies.{times-at}, Families.{open-is, group-is, group-members}, Keys.{is_key-same, once-true, times-cons}}
 use Rattle.world_spec.proofs.Moving.{leads-parts}
 use Rattle.event_commands.proofs.Named.{in-family}
+use Rattle.world_spec.proofs.Along.{once-both}
 
 -- whether the event is open
 pub closed-none : (hw : Hardware) (w : World) (e : EventNo) → IsKept hw w → (family_of w e).original ≡ None → closed_refusal (stage_of w) e ≡ Some reason.NoEvent
@@ -23,10 +24,6 @@ pub original-in : (hw : Hardware) (w : World) (e : EventNo) (k : Key) → IsKept
 original-in hw w e k h some = grind (arith, times-cons, once-true, is_key-same, in-family, count-append)
 
 -- the members of a leader's group live
-once-both : (b : Bool) → 1 ≤ once_if b → b ≡ true
-once-both true h = refl
-once-both false h = absurd (omega (arith, h))
-
 pub members-live : (hw : Hardware) (w : World) (leader : Key) → IsKept hw w → All (λ k. is_live w k ≡ true) (entry_at w leader).members
 members-live hw w leader h i d low =
     let k : Key = slice_index_or (entry_at w leader).members i d in

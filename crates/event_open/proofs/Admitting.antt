@@ -11,16 +11,13 @@ use Rattle.world_spec.{specs.Kept.{post_at, once_if, is_member_of}, proofs.{Comi
 use Rattle.perf_world.specs.Seen.{IsWorld}
 use Rattle.event_open.specs.{Demanded.{demanded, demanded_with}, Opened.{keys_led, members_led, members_with}}
 use Rattle.event_open.proofs.{Demanding.{demanded-distinct, demanded-push, pairs-mapped, pairs-of_keys}, Leaders.{member-lives}}
-
-at-most-one : (b : Bool) → once_if b ≤ 1
-at-most-one true = omega arith
-at-most-one false = omega arith
+use Rattle.world_spec.proofs.Copying.{at-most-once}
 
 -- two members of a group are not in one slot
 pub members-apart : (w : World) (m : Key) → IsWorld w → AllPairs (λ j k. (instance_at w j).event ≢ (instance_at w k).event) (entry_at w m).members
 members-apart w m h =
     pairs-of_keys (λ j k. (instance_at w j).event ≢ (instance_at w k).event) (entry_at w m).members
-    (λ k. omega (arith, h.linked.members k m, at-most-one (is_member_of (post_at w) m k)))
+    (λ k. omega (arith, h.linked.members k m, at-most-once (is_member_of (post_at w) m k)))
     (λ j k some_j some_k apart same.
     let one : (is_live w j ≡ true) × ((entry_at w j).leader ≡ m) = member-lives w m j h some_j in
     let other : (is_live w k ≡ true) × ((entry_at w k).leader ≡ m) = member-lives w m k h some_k in

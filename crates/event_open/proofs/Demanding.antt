@@ -10,6 +10,7 @@ use Rattle.stage_spec.specs.{Tight.{masks_of}, Verdict.{with_masks}}
 use Rattle.counter_match.specs.Seating.{AreDistinct}
 use Rattle.world_spec.{specs.Value.{is_key, times}, proofs.{Copies.{times-at}, Keys.{times-cons, once-true, is_key-same}}}
 use Rattle.event_open.specs.Demanded.{demanded, demanded_by}
+use Rattle.stage_laws.proofs.Groups.{masks-cond}
 
 -- demands of one, and of two lists
 abbrev masked : Hardware → Instance → EventNo × ℕ
@@ -32,11 +33,6 @@ pub length-demanded : (hw : Hardware) (xs : List Instance) → length (demanded 
 length-demanded hw xs = omega (arith, length-map (filter is_hardware xs) (masked hw), length-filter is_hardware xs, count_by-le-length is_hardware xs)
 
 -- their masks are those of the hardware kinds
-masks-cond : (hw : Hardware) (b : Bool) (i : Instance) (xs : List Instance)
-    → masks_of (with_masks hw (cond b (i ∷ xs) xs)) ≡ cond b (mask_of hw i.attr.kind ∷ masks_of (with_masks hw xs)) (masks_of (with_masks hw xs))
-masks-cond hw true i xs = refl
-masks-cond hw false i xs = refl
-
 kinds-cond : (hw : Hardware) (b : Bool) (k : Kind) (kinds : List Kind) → map (mask_of hw) (cond b (k ∷ kinds) kinds) ≡ cond b (mask_of hw k ∷ map (mask_of hw) kinds) (map (mask_of hw) kinds)
 kinds-cond hw true k kinds = refl
 kinds-cond hw false k kinds = refl

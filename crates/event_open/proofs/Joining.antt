@@ -19,13 +19,11 @@ use Rattle.perf_world.specs.{Parts.{MayAdd}, Seen.{IsWorld}}
 use Rattle.event_open.specs.{Demanded.{demanded}, Opened.{leader_key, members_led, members_with, opened_as}}
 use Rattle.event_open.proofs.{Admitting.{members-with, slot-free}, Demanding.{masks-by_kinds}}
 use Rattle.event_open.proofs.Leaders.{IsOriginal, slot-original, closed-is, sibling-is, led-members, other-pmu-is, room-is}
-use Rattle.event_open.proofs.Refusing.{none-holds, first-free}
-
--- the context of an attribute has a place
-place-by : (n : ℕ) (task : TaskSel) (cpu : CpuSel) → n ≤ 8 → IsTaskSel task → IsCpuSel n cpu → place_of (context_by task cpu) < 72
-place-by n (tasks.One task) cpu few t c = omega (arith, t)
-place-by n tasks.All cpus.Any few t c = omega arith
-place-by n tasks.All (cpus.One cpu) few t c = grind (arith, nat_tests)
+use Rattle.event_open.proofs.Refusing.{none-holds}
+use Rattle.stage_laws.proofs.Numbered.{context_by-place}
+use Rattle.stage_laws.proofs.Groups.{other_pmu-back}
+use Rattle.perf_world.proofs.Added.{may-come}
+use Rattle.stage_spec.proofs.Carried.{no_fault}
 
 -- the leader of an open that is not refused
 pub record IsLeader (w : World) (a : Attr) (leader : EventNo) (k : Key) : Type 0 where
@@ -68,12 +66,6 @@ led-by w e a leader (Some k) h fine some = (k, leader-key w e a leader k h fine 
 abbrev other_pmu : (mine other : Option ℕ) → Bool
 other_pmu mine other = holds_of (λ pmu. not (is_pmu other pmu)) mine
 
-turned-pmu : (p q : Option ℕ) → other_pmu p q ≡ false → other_pmu q p ≡ false
-turned-pmu None None h = refl
-turned-pmu None (Some n) h = refl
-turned-pmu (Some m) None h = refl
-turned-pmu (Some m) (Some n) h = grind (arith, nat_tests, number_true, not-false)
-
 none-passes : (test : Key → Bool) (keys : List Key) → list_any test keys ≡ false → (n : ℕ) → n < length keys → test (slice_index_or keys n (record { 0 = 0 })) ≡ false
 none-passes test [] h n low = absurd (omega (arith, low))
 none-passes test (k ∷ keys) h zero low = (or_parts (test k) (list_any test keys) h).0
@@ -105,7 +97,7 @@ fitting-led w e a leader k h fine led =
           let size : length (kinds_in (post_at w) k) ≡ length keys = length-map keys (λ q. (post_at w q).kind) in
           let q : Key = slice_index_or keys n (record { 0 = 0 }) in
           let is : slice_index_or (kinds_in (post_at w) k) n d ≡ (instance_at w q).attr.kind = get_or-map (λ q. (post_at w q).kind) keys n (record { 0 = 0 }) d (omega (arith, low, size)) in
-          ap (λ one. is_other_pmu w.hardware one a.kind) is ∙ turned-pmu (pmu_of_kind w.hardware a.kind) (pmu_of_kind w.hardware (instance_at w q).attr.kind)
+          ap (λ one. is_other_pmu w.hardware one a.kind) is ∙ other_pmu-back (pmu_of_kind w.hardware a.kind) (pmu_of_kind w.hardware (instance_at w q).attr.kind)
           (none-passes (λ j. is_other_pmu w.hardware a.kind (instance_at w j).attr.kind) keys none n (omega (arith, low, size))));
     }
 
@@ -131,8 +123,8 @@ may-add w e a leader h slot attr few ids free =
     let fine : IsAccepted w.hardware (stage_of w) e a leader = accepted w.hardware (stage_of w) e a leader free in
     record {
       slot = slot;
-      place = place-by (length w.quiet.running) a.task a.cpu few attr.task attr.cpu;
-      known = (none-holds w.hardware (stage_of w) e a leader (first-free w.hardware (stage_of w) e a leader free)).known;
+      place = context_by-place (length w.quiet.running) a.task a.cpu few attr.task attr.cpu;
+      known = (none-holds w.hardware (stage_of w) e a leader (no_fault w.hardware (stage_of w) e a leader free)).known;
       kind = attr.kind;
       first_there = λ j live same place. slot-free w e h fine.unused j live same;
       fitting = fitting-new w e a leader h fine;
@@ -148,18 +140,6 @@ led-original w e a None h fine = (tt, refl)
 led-original w e a (Some leader) h fine =
     let led = led-by w e a leader (family_of w leader).original h fine refl in
     subst (λ o. IsLedByOriginal w o × (slot_led w o ≡ Some leader)) (sym led.1.named) (led.1.original.first, ap (λ x. Some x) led.1.original.event)
-
-pub may-come : (w : World) (n : Newcomer) (k : Key) → MayAdd w n → is_live w k ≡ false → MayCome w.hardware w k n
-may-come w n k may fresh = record {
-  fresh = fresh;
-  slot = may.slot;
-  place = may.place;
-  known = may.known;
-  kind = may.kind;
-  first_there = may.first_there;
-  fitting = may.fitting;
-  room = may.ids;
-}
 
 pub stage-opened : (w : World) (e : EventNo) (a : Attr) (leader : Option EventNo) (k : Key) → IsWorld w → MayAdd w (opened_as w e a leader)
     → open_refusal w.hardware (stage_of w) e a leader ≡ None → is_live w k ≡ false → stage_of (add k (opened_as w e a leader) w) ≡ opened (stage_of w) e a leader

@@ -15,7 +15,9 @@ use Rattle.stage_laws.specs.Narrowing.{has_context, unless_left, unless_no}
 use Rattle.world_spec.specs.{Adding.{Newcomer, add}, Kept.{IsKept}, Lines.{HasChanged}, Rescheduled.{AreUntouchedOutside}, Staying.{HasCome}}
 use Rattle.world_spec.specs.{StageOf.{stage_of}, Value.{World, is_live, entry_at, instance_at, account_at}}
 use Rattle.world_spec.proofs.{Families.{open-is}, Keys.{key-is}, Quiet.{quiet-keeps}}
-use Rattle.event_open.{proofs.Refusing.{none-holds, first-free}, specs.Opened.{opened_as, IsOpenedAs}}
+use Rattle.event_open.{proofs.Refusing.{none-holds}, specs.Opened.{opened_as, IsOpenedAs}}
+use Rattle.perf_world.proofs.Clear.{neither}
+use Rattle.stage_spec.proofs.Carried.{used_refuses, no_fault}
 
 -- What a newcomer leaves and draws, whether it is led or not.
 record Draws (w v : World) (n : Newcomer) : Type 0 where
@@ -31,13 +33,6 @@ added-draws w key n None = record { hardware = refl; running = refl; clocks = re
 added-draws w key n (Some leader) = record { hardware = refl; running = refl; clocks = refl; totals = refl; next = refl; used = refl }
 
 -- a slot that is current after the open was so before it
-unused-first : (a b : Bool) → (a || b) ≡ false → a ≡ false
-unused-first true b h = absurd (false≢true (sym h))
-unused-first false b h = refl
-
-slot-unused : (hw : Hardware) (s : Stage) (slot : EventNo) (a : Attr) (leader : Option EventNo) → open_refusal hw s slot a leader ≡ None → is_used s slot ≡ false
-slot-unused hw s slot a leader h = (none-holds hw s slot a leader (first-free hw s slot a leader h)).unused
-
 -- the processor that an attribute within the limits names
 processor-in : Context → ℕ
 processor-in (context.Processor cpu) = cpu.0
@@ -80,12 +75,12 @@ open-changed w v slot a leader set h h_then some place accepted o stage touched 
               absurd (omega (arith, past, ap (λ i. i.id) (come.others.instances k apart), (h.numbered.drawn k was).1))
         ];
         slots = λ e current. elim (cases_eq e.0 slot.0) [
-          | inl same ↦ inr (ap (λ m. is_used (stage_of w) (record { 0 = m })) same ∙ slot-unused w.hardware (stage_of w) slot a leader accepted)
+          | inl same ↦ inr (ap (λ m. is_used (stage_of w) (record { 0 = m })) same ∙ used_refuses w.hardware (stage_of w) slot a leader accepted)
           | inr apart ↦ elim current [
             | inl opened_then ↦
                 inl (open-is w.hardware w e h ∙ (ap (λ f. is_some f.original) (sym (come.families e apart)) ∙ (sym (open-is v.hardware v e h_then) ∙ opened_then)))
             | inr unused ↦
-                inr (unused-first (is_used (stage_of w) e) (list_any (λ f. f.0 == e.0) (slot ∷ []))
+                inr (neither (is_used (stage_of w) e) (list_any (λ f. f.0 == e.0) (slot ∷ []))
                 (sym (list_any-append (λ f. f.0 == e.0) w.quiet.used (slot ∷ [])) ∙ (ap (list_any (λ f. f.0 == e.0)) (sym draws.used) ∙ unused)))
           ]
         ];

@@ -17,7 +17,9 @@ use Rattle.world_spec.proofs.{AddedStage.{group-other}, Coming.{Comes}, GoneLead
 use Rattle.world_spec.proofs.{Listings.{passes-are, reached_leaders, reached-context, reached-leading}, Moving.{leads-parts}}
 use Rattle.world_spec.proofs.{Standing.{left-untouched}, Staying.{add-stays}, Tables.{get-there}}
 use Rattle.perf_world.specs.{Parts.{MayAdd}, Seen.{IsWorld}}
-use Rattle.event_open.{specs.Opened.{opened_as}, proofs.Joining.{led-by, may-come, stage-opened}}
+use Rattle.event_open.{specs.Opened.{opened_as}, proofs.Joining.{led-by, stage-opened}}
+use Rattle.perf_world.proofs.Added.{may-come}
+use Rattle.world_spec.proofs.WaysGone.{added-standing}
 
 -- the passes of such a processor where the event is a group of its own
 open-alone : (s : Stage) (e : EventNo) (a : Attr) (cpu : CpuNo) → length s.contexts ≡ 72 → has_context s cpu (context_of a) ≡ false → ReachesSame s (opened s e a None) cpu
@@ -84,10 +86,6 @@ has-stays w k n None cpu (context.Task task) = refl
 has-stays w k n (Some first) cpu (context.Processor other) = refl
 has-stays w k n (Some first) cpu (context.Task task) = refl
 
-standing-stays : (w : World) (k : Key) (n : Newcomer) (leader : Option Key) (j : Key) → (j.0 ≡ k.0 → ⊥) → standing_at (added w k n leader) j ≡ standing_at w j
-standing-stays w k n None j apart = ap (λ o. unwrap_or o standing.Out) (get-there w.standings k.0 standing.Out j.0 apart)
-standing-stays w k n (Some first) j apart = ap (λ o. unwrap_or o standing.Out) (get-there w.standings k.0 standing.Out j.0 apart)
-
 -- and so the processor is as rescheduling left it
 others-stay : (w : World) (e : EventNo) (a : Attr) (leader : Option EventNo) (k : Key) (cpu : CpuNo) → IsWorld w → MayAdd w (opened_as w e a leader)
     → open_refusal w.hardware (stage_of w) e a leader ≡ None → is_live w k ≡ false → cpu.0 < 8 → has_context (stage_of w) cpu (context_of a) ≡ false
@@ -106,7 +104,7 @@ others-stay w e a leader k cpu h may free fresh low away =
           sym (ap (λ p. p.live && is_key j p.leader) (comes.others j apart)) ∙ lead,
           sym (has-stays w k n n.leader cpu (entry_at w j).context) ∙ (ap (has_context (stage_of after) cpu) (sym (come.others.contexts j apart)) ∙ has),
           ap (λ i. i.id) (come.others.instances j apart),
-          standing-stays w k n n.leader j apart,
+          added-standing w k n n.leader j apart,
         )
       ];
     })

@@ -11,6 +11,7 @@ use Rattle.world_spec.specs.{StageOf.{stage_of}, Value.{World, instance_at, fami
 use Rattle.perf_world.specs.Seen.{IsWorld}
 use Rattle.event_open.specs.{Demanded.{demanded, demanded_with}, Faults.{event_faults, leader_faults, group_faults}}
 use Rattle.event_open.{specs.Opened.{members_led, members_with}, proofs.{Admitting.{demands-whole}, Leaders.{closed-is, group-faults}}}
+use Rattle.stage_spec.proofs.Carried.{no_fault}
 
 first-append : (xs ys : List (Reason × Bool)) → first_of (xs ++ ys) ≡ option_or (first_of xs) (first_of ys)
 first-append [] ys = refl
@@ -66,10 +67,6 @@ refusal-keys w e a leader keys is =
 neither : (o other : Option Reason) → option_or o other ≡ None → o ≡ None
 neither None other h = refl
 neither (Some r) other h = h
-
-pub first-free : (hw : Hardware) (s : Stage) (e : EventNo) (a : Attr) (leader : Option EventNo) → open_refusal hw s e a leader ≡ None → first_of (open_faults hw s e a leader) ≡ None
-first-free hw s e a leader h =
-    neither (first_of (open_faults hw s e a leader)) (unassignable (demanded hw (members_with s e a leader))) (sym (refusal-last hw s e a leader) ∙ h)
 
 pub record AreNone (s : Stage) (e : EventNo) (a : Attr) : Type 0 where
   pub unused : is_used s e ≡ false

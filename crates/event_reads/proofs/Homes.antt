@@ -9,7 +9,7 @@ use Rattle.stage_laws.{specs.Narrowing.{has_context}, proofs.{Counts.{count-appe
 use Rattle.world_spec.specs.{Kept.{leads, post_at, IsKept}, Listings.{pass_leaders}, Rescheduled.{IsRescheduled}, StageOf.{group_at, stage_of}}
 use Rattle.world_spec.{specs.Value.{World, entry_at, instance_at, is_live}, proofs.Coming.{number_true}}
 use Rattle.world_spec.proofs.Listings.{count-none, passes-are, reached_leaders, reached-context, reached-leading}
-use Rattle.world_spec.proofs.{Rescheduling.{about-groups, among-none, is_led, same-id}, Standing.{passes-groups}}
+use Rattle.world_spec.proofs.{Rescheduling.{about-groups, among-none, is_led, same-id, count-leaders}, Standing.{passes-groups}}
 use Rattle.event_reads.specs.Homes.{StandRescheduled}
 
 -- a processor that has the context of a leader stands as rescheduling leaves it
@@ -21,10 +21,6 @@ has-stood w k cpu (context.Processor own) stand live at there =
 has-stood w k cpu (context.Task task) stand live at there = stand.machine cpu (runs-within w.quiet.running cpu.0 task (is_task-some (task_on (stage_of w) cpu) task there))
 
 -- of the groups that pass a test those of an id are at most as many as the leaders of that id
-led-by : (w : World) (id : ℕ) (keys : List Key) → count_by (is_led id) (map (group_at w) keys) ≡ count_by (λ q. (instance_at w q).id == id) keys
-led-by w id [] = refl
-led-by w id (q ∷ keys) = search (count-cons, is_led, led-by w id keys)
-
 led-among : (w : World) (id : ℕ) (test : Group → Bool) (ps : List (List Key))
     → count_by (is_led id) (flat_map (λ p. p) (map (filter test) (map (map (group_at w)) ps))) ≤ count_by (λ q. (instance_at w q).id == id) (flat_map (λ keys. keys) ps)
 led-among w id test [] = omega arith
@@ -33,7 +29,7 @@ led-among w id test (keys ∷ ps) =
       arith,
       count-append (is_led id) (filter test (map (group_at w) keys)) (flat_map (λ p. p) (map (filter test) (map (map (group_at w)) ps))),
       count-filter (is_led id) test (map (group_at w) keys),
-      led-by w id keys,
+      count-leaders w id keys,
       count-append (λ q. (instance_at w q).id == id) keys (flat_map (λ k. k) ps),
       led-among w id test ps,
     )

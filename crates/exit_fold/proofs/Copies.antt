@@ -10,29 +10,21 @@ use Rattle.world_spec.{specs.Kept.{once_if, plus_keys, IsKept}, proofs.Accounts.
 use Rattle.world_spec.proofs.{Counting.{times-filter, AreSameKeys, same-total}, Folding.{run_times_are_sums}}
 use Rattle.world_spec.proofs.Keys.{is_key-same, times-cons, once-true}
 use Rattle.exit_fold.specs.Leaving.{is_of_task, leaves, leaving_copies}
+use Rattle.world_spec.proofs.Along.{once-both, filter-no}
+use Rattle.world_spec.proofs.Coming.{number_true}
+use Rattle.perf_world.proofs.Room.{three-true}
+use Rattle.world_spec.proofs.Working.{filter-same}
+use Rattle.world_spec.proofs.Families.{sums-total, same-sums}
 
 -- a key among the copies of an event
-pub once-some : (b : Bool) → 1 ≤ once_if b → b ≡ true
-once-some true h = refl
-once-some false h = absurd (omega (arith, h))
-
-three-parts : (a b c : Bool) → (a && b && c) ≡ true → (a ≡ true) × (b ≡ true) × (c ≡ true)
-three-parts true true true h = (refl, refl, refl)
-three-parts true true false h = absurd (cc)
-three-parts true false c h = absurd (cc)
-three-parts false b c h = absurd (cc)
-
 pub copy-there : (hw : Hardware) (w : World) (k : Key) (e : EventNo) → IsKept hw w → 1 ≤ times k (family_of w e).copies
     → (is_live w k ≡ true) × (((instance_at w k).event.0 == e.0) ≡ true) × ((instance_at w k).copy ≡ true)
-copy-there hw w k e h some = grind (arith, nat_tests, three-parts, once-some, some, h.linked.copies k e.0)
+copy-there hw w k e h some = grind (arith, nat_tests, three-true, once-both, some, h.linked.copies k e.0)
 
 -- the context of a task
-pub same-number : (m n : ℕ) → (m == n) ≡ true → m ≡ n
-same-number m n h = grind (arith, nat_tests, h)
-
 pub of-task-is : (task : TaskNo) (c : Context) → is_of_task task c ≡ true → c ≡ context.Task task
 of-task-is task (context.Processor cpu) h = absurd (false≢true h)
-of-task-is task (context.Task other) h = ap (λ n. context.Task (record { 0 = n })) (same-number other.0 task.0 h)
+of-task-is task (context.Task other) h = ap (λ n. context.Task (record { 0 = n })) (number_true other.0 task.0 h)
 
 -- a copy that goes stands once among those of its event that do
 one-leaving : (live same copy of : Bool) → cond (copy && of) (once_if (live && same && copy)) 0 ≡ once_if (live && ((copy && of) && same))
@@ -54,26 +46,15 @@ leaving-times hw v task e h k =
     ∙ one-leaving (is_live v k) ((instance_at v k).event.0 == e.0) (instance_at v k).copy (is_of_task task (entry_at v k).context))
 
 -- tests that agree at the keys of a list, that all of them pass, and that none does
-pub filter-within : (p q : Key → Bool) (xs : List Key) → ((k : Key) → 1 ≤ times k xs → p k ≡ q k) → filter p xs ≡ filter q xs
-filter-within p q [] same = refl
-filter-within p q (x ∷ xs) same =
-    let rest : filter p xs ≡ filter q xs = filter-within p q xs (λ k some. same k (omega (arith, some, times-cons k x xs))) in
-    let first : p x ≡ q x = same x (omega (arith, times-cons x x xs, once-true (is_key x x) (is_key-same x x refl))) in
-    λ i. cond (first i) (x ∷ rest i) (rest i)
-
 every-one : (xs : List Key) → filter (λ k. true) xs ≡ xs
 every-one [] = refl
 every-one (x ∷ xs) = ap (λ ys. x ∷ ys) (every-one xs)
 
-pub no-one : (xs : List Key) → filter (λ k. false) xs ≡ []
-no-one [] = refl
-no-one (x ∷ xs) = no-one xs
-
 pub filter-all : (p : Key → Bool) (xs : List Key) → ((k : Key) → 1 ≤ times k xs → p k ≡ true) → filter p xs ≡ xs
-filter-all p xs all = filter-within p (λ k. true) xs all ∙ every-one xs
+filter-all p xs all = filter-same p (λ k. true) xs all ∙ every-one xs
 
 pub filter-none : (p : Key → Bool) (xs : List Key) → ((k : Key) → 1 ≤ times k xs → p k ≡ false) → filter p xs ≡ []
-filter-none p xs none = filter-within p (λ k. false) xs none ∙ no-one xs
+filter-none p xs none = filter-same p (λ k. false) xs none ∙ filter-no xs
 
 -- two tests one after the other
 chosen : (a b : Bool) (x : Key) (xs : List Key) (r : Key → Bool) → r x ≡ b → filter r (cond a (x ∷ xs) xs) ≡ cond (a && b) (x ∷ filter r xs) (filter r xs)
@@ -85,18 +66,5 @@ filter-twice p r [] = refl
 filter-twice p r (x ∷ xs) = chosen (p x) (r x) x (filter p xs) r refl ∙ ap (λ ys. cond (p x && r x) (x ∷ ys) ys) (filter-twice p r xs)
 
 -- sums by the keys
-sums-total : (p : Sums → ℕ) → IsSum p → (s : Key → Sums) (keys : List Key) → p (plus_keys s keys) ≡ total (λ k. p (s k)) keys
-sums-total p is s [] = is.none ∙ sym (total-nil (λ k. p (s k)))
-sums-total p is s (q ∷ keys) = omega (arith, is.both (s q) (plus_keys s keys), sums-total p is s keys, total-cons (λ k. p (s k)) q keys)
-
-pub same-sums : (s : Key → Sums) (xs ys : List Key) → AreSameKeys xs ys → plus_keys s xs ≡ plus_keys s ys
-same-sums s xs ys h =
-    let each : (p : Sums → ℕ) → IsSum p → p (plus_keys s xs) ≡ p (plus_keys s ys) = λ p is. sums-total p is s xs ∙ (same-total (λ k. p (s k)) xs ys h ∙ sym (sums-total p is s ys)) in
-    λ i. record {
-      count = each (λ x. x.count) counts_are_sums i;
-      enabled = each (λ x. x.enabled) times_are_sums i;
-      running = each (λ x. x.running) run_times_are_sums i;
-    }
-
 pub plus-turned : (a b : Sums) → plus a b ≡ plus b a
 plus-turned a b = grind (arith, nat_tests)

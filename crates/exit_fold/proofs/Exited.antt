@@ -13,7 +13,8 @@ use Rattle.stage_laws.proofs.{Others.{ReachesSame, passes-same, task-changed, ta
 use Rattle.counter_match.specs.Seating.{empty_seating}
 use Rattle.world_spec.specs.{Value.{World, is_live, entry_at, standing_at, is_key}, StageOf.{stage_of}, Kept.{post_at, IsKept}}
 use Rattle.world_spec.{specs.{Changes.{place, end_task}, Rescheduled.{IsUntouched}}, proofs.{Moving.{leads-parts}, Standing.{left-untouched}}}
-use Rattle.exit_fold.{specs.Leaving.{is_of_task, IsFolded}, proofs.Copies.{same-number}}
+use Rattle.exit_fold.specs.Leaving.{is_of_task, IsFolded}
+use Rattle.world_spec.proofs.Coming.{number_true}
 
 -- the task on a processor has a number, and is there
 pub task-low : (hw : Hardware) (w : World) (cpu : CpuNo) (task : TaskNo) → IsKept hw w → task_on (stage_of w) cpu ≡ Some task → task.0 < 64
@@ -52,7 +53,7 @@ has-same s t cpu (context.Task task) same = ap (λ o. is_task o task) same
 
 elsewhere : (s : Stage) (cpu other : CpuNo) (task : TaskNo) (c : Context) → AreRunning s → task_on s cpu ≡ Some task → other.0 ≢ cpu.0 → has_context s other c ≡ true → is_of_task task c ≡ false
 elsewhere s cpu other task (context.Processor own) running on apart has = refl
-elsewhere s cpu other task (context.Task here) running on apart has = grind (arith, tasks-apart, is_task-some, same-number)
+elsewhere s cpu other task (context.Task here) running on apart has = grind (arith, tasks-apart, is_task-some, number_true)
 
 left-there : (hw : Hardware) (v w : World) (cpu other : CpuNo) (task : TaskNo) → IsKept hw v → task_on (stage_of v) cpu ≡ Some task → IsFolded task v w → other.0 < 8 → other.0 ≢ cpu.0
     → IsUntouched hw v (end_task task (place cpu None w)) other

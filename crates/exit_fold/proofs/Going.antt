@@ -12,14 +12,7 @@ use Rattle.world_spec.proofs.{Dropping.{it-leads}, Folding.{folded-is, copy-may}
 use Rattle.world_spec.proofs.GoneLeader.{freed_standings, entries_freed, standings_freed, led_world, dropped-leader, tables-freed, led-disbands, siblings-stand}
 use Rattle.world_spec.proofs.{Keys.{key-is, is_key-same, is_key-true, times-cons, once-true, once-false}, Moving.{leads-parts}}
 use Rattle.world_spec.proofs.Tables.{post_of, get-there}
-
--- standings of keys that are not freed
-standing-unfreed : (keys : List Key) (m : FinMap nat_cmp Standing) (q : Key) → times q keys ≡ 0 → get (fold freed_standings m keys) q.0 ≡ get m q.0
-standing-unfreed [] m q none = refl
-standing-unfreed (k ∷ keys) m q none = elim (cases_eq q.0 k.0) [
-  | inl e ↦ absurd (omega (arith, none, times-cons q k keys, once-true (is_key q k) (is_key-same q k (sym e))))
-  | inr apart ↦ standing-unfreed keys (freed_standings m k) q (omega (arith, none, times-cons q k keys)) ∙ get-there m k.0 standing.Out q.0 apart
-]
+use Rattle.world_spec.proofs.WaysGone.{standing-left}
 
 -- a key in another context has the post and the standing that it had
 pub IsAsBefore : World → World → Key → Type 0
@@ -36,7 +29,7 @@ leader-untouched hw w k j h lead apart off =
     let d : Disbands (post_at w) (post_at (led_world w k (entries_freed w k) (standings_freed w k))) k =
     led-disbands w k (entries_freed w k) (standings_freed w k) lead (tables-freed hw w k h lead) in
     let none : times j keys ≡ 0 = (siblings-stand hw w k h lead).others j apart ∙ once-false (is_member_of (post_at w) k j) off in
-    (d.others j apart off, ap (λ o. unwrap_or o standing.Out) (get-left (standings_freed w k) k.0 j.0 apart ∙ standing-unfreed keys w.standings j none))
+    (d.others j apart off, ap (λ o. unwrap_or o standing.Out) (get-left (standings_freed w k) k.0 j.0 apart ∙ standing-left keys w.standings j none))
 
 sibling-untouched : (w : World) (k j : Key) → (j.0 ≡ k.0 → ⊥) → (j.0 ≡ (entry_at w k).leader.0 → ⊥) → IsAsBefore w (left_world w k) j
 unfolding IsAsBefore

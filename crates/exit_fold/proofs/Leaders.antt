@@ -11,23 +11,20 @@ use Rattle.stage_laws.{specs.Sound.{IsGroup, IsGrouped, AreAlike}, proofs.{Tasks
 use Rattle.world_spec.specs.Value.{World, Leaders, no_leaders, is_live, entry_at, instance_at, leaders_of, is_key, times}
 use Rattle.world_spec.specs.{StageOf.{after_first, group_at, lists_at, stage_of}, Kept.{post_at, leads, once_if, IsKept}, Adding.{folded_away}}
 use Rattle.world_spec.{specs.{Changes.{all_but}, Listings.{keys_in}, Staying.{HasGone}}, proofs.Counting.{AreSameKeys, same-total}}
-use Rattle.world_spec.proofs.{Disbanding.{disband}, Families.{leaders_both, leaders-at}, Folding.{folded-is, fold-kept}}
+use Rattle.world_spec.proofs.{Disbanding.{disband}, Families.{leaders_both, leaders-at, length-total}, Folding.{folded-is, fold-kept}}
 use Rattle.world_spec.proofs.GoneLeader.{led_world, entries_freed, standings_freed, dropped-leader}
 use Rattle.world_spec.proofs.Keys.{key-is, is_key-same, is_key-other, all_but-cons, all_but-none, times-cons, once-true, once-false}
 use Rattle.world_spec.proofs.Moving.{leads-parts}
-use Rattle.exit_fold.{specs.Leaving.{is_of_task, leaders_in, fold_copy}, proofs.{Contexts.{by-place, keys-at}, Copies.{of-task-is, once-some}}}
+use Rattle.exit_fold.{specs.Leaving.{is_of_task, leaders_in, fold_copy}, proofs.{Contexts.{by-place}, Copies.{of-task-is}}}
 use Rattle.exit_fold.proofs.Walked.{AreFolding, IsNext, next-live, next-gone, folding-none, folding-more}
+use Rattle.world_spec.proofs.Along.{once-both}
+use Rattle.world_spec.proofs.Tables.{same_number}
+use Rattle.world_spec.proofs.Copying.{at-most-once}
+use Rattle.world_spec.proofs.Listings.{keys-at}
 
 -- small facts
-at-most-one : (b : Bool) → once_if b ≤ 1
-at-most-one true = omega arith
-at-most-one false = omega arith
-
 both-once : (a b : Bool) → a ≡ true → b ≡ true → once_if (a && b) ≡ 1
 both-once a b first second = λ i. once_if (first i && second i)
-
-is-number : (m n : ℕ) → m ≡ n → (m == n) ≡ true
-is-number m n h = grind (arith, nat_tests, h)
 
 past-end : (xs : List Key) (n : ℕ) → slice_get xs n ≡ None → length xs ≤ n
 past-end [] n h = omega arith
@@ -98,7 +95,7 @@ leaders-then hw w task q h low x =
 pub stands-at : (hw : Hardware) (w : World) (task : TaskNo) (q : Key) (place : ℕ) → IsKept hw w → slice_get (leaders_in w task) place ≡ Some q
     → (leads (post_at w) q && place_of (entry_at w q).context == 8 + task.0) ≡ true
 stands-at hw w task q place h at =
-    grind (arith, nat_tests, once-some, key-at, leaders-at, key-at q (leaders_in w task) place at, leaders-at hw w h q (8 + task.0))
+    grind (arith, nat_tests, once-both, key-at, leaders-at, key-at q (leaders_in w task) place at, leaders-at hw w h q (8 + task.0))
 
 pub is-next : (hw : Hardware) (w : World) (task : TaskNo) (q : Key) (place : ℕ) → IsKept hw w → task.0 < 64 → slice_get (leaders_in w task) place ≡ Some q → (instance_at w q).copy ≡ true → IsNext w task q
 is-next hw w task q place h low at copy =
@@ -128,7 +125,7 @@ walked-copy hw task v w q passed h task_low f at copy =
     let g : HasGone w (folded_away q w) q = next-gone hw w task q f.folding.kept x in
     let keys : List Key = leaders_in w task in
     let siblings : List Key = after_first (entry_at w q).members in
-    let once : times q keys ≤ 1 = omega (arith, leaders-at hw w f.folding.kept q (8 + task.0), at-most-one (leads (post_at w) q && place_of (entry_at w q).context == 8 + task.0)) in
+    let once : times q keys ≤ 1 = omega (arith, leaders-at hw w f.folding.kept q (8 + task.0), at-most-once (leads (post_at w) q && place_of (entry_at w q).context == 8 + task.0)) in
     record {
       folding = folding-more hw task v w q h f.folding x;
       originals = λ i m low found.
@@ -158,19 +155,15 @@ none-left hw task v w passed low f end k live there =
     let m : Key = (entry_at w k).leader in
     let here : place_of (entry_at w m).context ≡ 8 + task.0 = ap place_of (h.grouped.together k live ∙ of-task-is task (entry_at w k).context there) in
     let once : times m (leaders_in w task) ≡ 1 =
-    leaders-at hw w h m (8 + task.0) ∙ both-once (leads (post_at w) m) (place_of (entry_at w m).context == 8 + task.0) (h.grouped.led k live) (is-number (place_of (entry_at w m).context) (8 + task.0) here) in
+    leaders-at hw w h m (8 + task.0) ∙ both-once (leads (post_at w) m) (place_of (entry_at w m).context == 8 + task.0) (h.grouped.led k live) (same_number (place_of (entry_at w m).context) (8 + task.0) here) in
     let found : (i : ℕ) × (slice_get (leaders_in w task) i ≡ Some m) = place-of m (leaders_in w task) (omega (arith, once)) in
     let long : length (leaders_in w task) ≤ passed = past-end (leaders_in w task) passed end in
     let within : found.0 < length (leaders_in w task) = slice_get_within (leaders_in w task) found.0 m found.1 in
     sym (f.folding.alike k live there) ∙ f.originals found.0 m (omega (arith, within, long)) found.1
 
 -- each step leaves less to do
-one-each : (keys : List Key) → length keys ≡ total (λ k. 1) keys
-one-each [] = sym (total-nil (λ (k : Key). 1))
-one-each (k ∷ keys) = omega (arith, one-each keys, total-cons (λ (q : Key). 1) k keys)
-
 same-length : (xs ys : List Key) → AreSameKeys xs ys → length xs ≡ length ys
-same-length xs ys h = one-each xs ∙ (same-total (λ k. 1) xs ys h ∙ sym (one-each ys))
+same-length xs ys h = length-total xs ∙ (same-total (λ k. 1) xs ys h ∙ sym (length-total ys))
 
 pub fewer-keys : (hw : Hardware) (w : World) (task : TaskNo) (q : Key) → IsKept hw w → task.0 < 64 → IsNext w task q
     → length (keys_in w (context.Task task)) ≡ suc (length (keys_in (folded_away q w) (context.Task task)))
@@ -231,7 +224,7 @@ first-alike hw v task k h grouped live there =
     let groups : groups_in (lists_of s c) ≡ map (group_at v) (leaders_both l) = ap groups_in lists ∙ sym (map-append (group_at v) l.pinned l.flexible) in
     let at : place_of (entry_at v m).context ≡ place_of c = ap place_of (h.grouped.together k live ∙ of-task-is task (entry_at v k).context there) in
     let once : times m (leaders_both l) ≡ 1 =
-    leaders-at hw v h m (place_of c) ∙ both-once (leads (post_at v) m) (place_of (entry_at v m).context == place_of c) lead (is-number (place_of (entry_at v m).context) (place_of c) at) in
+    leaders-at hw v h m (place_of c) ∙ both-once (leads (post_at v) m) (place_of (entry_at v m).context == place_of c) lead (same_number (place_of (entry_at v m).context) (place_of c) at) in
     let group : IsGroup hw (group_at v m) = each-at (IsGroup hw) (group_at v) m (leaders_both l) (subst (Each (IsGroup hw)) groups here) (omega (arith, once)) in
     elim (cases_eq k.0 m.0) [
       | inl is ↦ ap (λ q. (instance_at v q).copy) (key-is m k (sym is))

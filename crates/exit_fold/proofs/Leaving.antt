@@ -7,14 +7,11 @@ use Rattle.stage_spec.specs.{declared.instance.Instance.{Instance}, Families.{pl
 use Rattle.stage_spec.specs.{Stage.{members, groups_in, is_of_family, task_on}, Verdict.{task_lists}}
 use Rattle.stage_laws.proofs.Images.{filter-map}
 use Rattle.world_spec.specs.{Value.{World, is_live, entry_at, instance_at, family_of}, StageOf.{stage_of}, Kept.{once_if, plus_keys, IsKept}}
-use Rattle.world_spec.{specs.Listings.{keys_in}, proofs.{Counting.{times-filter, AreSameKeys}, Listings.{context-is}}}
-use Rattle.exit_fold.{specs.Leaving.{is_of_task, leaving_copies, LeavingLaw}, proofs.Contexts.{by-place, keys-at}}
-use Rattle.exit_fold.proofs.{Copies.{leaving-times, no-one, same-sums}, Exited.{task-low}}
-
--- sums by the keys
-sums-by_keys : (f : Instance → Sums) (w : World) (keys : List Key) → plus_each f (map (instance_at w) keys) ≡ plus_keys (λ k. f (instance_at w k)) keys
-sums-by_keys f w [] = refl
-sums-by_keys f w (q ∷ keys) = ap (plus (f (instance_at w q))) (sums-by_keys f w keys)
+use Rattle.world_spec.{specs.Listings.{keys_in}, proofs.{Counting.{times-filter, AreSameKeys}, Listings.{context-is, keys-at}}}
+use Rattle.exit_fold.{specs.Leaving.{is_of_task, leaving_copies, LeavingLaw}, proofs.Contexts.{by-place}}
+use Rattle.exit_fold.proofs.{Copies.{leaving-times}, Exited.{task-low}}
+use Rattle.world_spec.proofs.Along.{filter-no}
+use Rattle.world_spec.proofs.Families.{same-sums, each-by_keys}
 
 -- where no task is on, and where one is
 same-one : (live family copy of : Bool) → cond (family && copy) (once_if (live && of)) 0 ≡ once_if (live && ((copy && of) && family))
@@ -48,10 +45,10 @@ leaving-mapped hw w task e h =
 
 leaving-by : (hw : Hardware) (w : World) (cpu : CpuNo) (e : EventNo) (f : Instance → Sums) (o : Option TaskNo) → IsKept hw w → task_on (stage_of w) cpu ≡ o
     → plus_each f (filter (λ i. is_of_family e i && i.copy) (members (groups_in (task_lists (stage_of w) o)))) ≡ plus_keys (λ k. f (instance_at w k)) (leaving_copies w o e)
-leaving-by hw w cpu e f None h on = ap (plus_keys (λ k. f (instance_at w k))) (sym (no-one (family_of w e).copies))
+leaving-by hw w cpu e f None h on = ap (plus_keys (λ k. f (instance_at w k))) (sym (filter-no (family_of w e).copies))
 leaving-by hw w cpu e f (Some task) h on =
     ap (plus_each f) (leaving-mapped hw w task e h)
-    ∙ (sums-by_keys f w (filter (of_event w e) (keys_in w (context.Task task)))
+    ∙ (each-by_keys f w (filter (of_event w e) (keys_in w (context.Task task)))
     ∙ same-sums (λ k. f (instance_at w k)) (filter (of_event w e) (keys_in w (context.Task task))) (leaving_copies w (Some task) e) (same-keys hw w task e h (task-low hw w cpu task h on)))
 
 pub leaving-is : LeavingLaw

@@ -10,13 +10,17 @@ use Rattle.stage_laws.{specs.OneByOne.{drop_one, drop_ones}, proofs.Others.{cpu-
 use Rattle.world_spec.specs.Value.{World, is_live, entry_at, instance_at, account_at, standing_at, leaders_of, family_of, is_key, times}
 use Rattle.world_spec.specs.{StageOf.{stage_of}, Kept.{post_at, leads, once_if, is_member_of, plus_keys, family_sums, IsKept}}
 use Rattle.world_spec.{specs.{Adding.{drop_instance, folded_away}, Changes.{all_but}, Staying.{HasGone}}, proofs.Counting.{times-filter, AreSameKeys}}
-use Rattle.world_spec.proofs.{Disbanding.{Disbands}, Folding.{fold-stage, fold-sums, fold-kept, folded-is}}
+use Rattle.world_spec.proofs.{Disbanding.{Disbands, and_true}, Folding.{fold-stage, fold-sums, fold-kept, folded-is}}
 use Rattle.world_spec.proofs.GoneLeader.{entries_freed, standings_freed, dropped-leader, tables-freed, led-disbands}
 use Rattle.world_spec.proofs.Keys.{key-is, is_key-same, is_key-other, is_key-true, all_but-none, times-cons, times-push, once-true, once-false}
 use Rattle.world_spec.proofs.{Moving.{leads-parts}, Staying.{fold-stays}}
 use Rattle.exit_fold.specs.Leaving.{is_of_task, leaves}
-use Rattle.exit_fold.proofs.Copies.{copy-there, same-number, filter-within, filter-all, filter-none, filter-twice, same-sums, plus-turned}
+use Rattle.exit_fold.proofs.Copies.{copy-there, filter-all, filter-none, filter-twice, plus-turned}
 use Rattle.exit_fold.proofs.Going.{folded-apart, folded-untouched, own-family, own-folded, same-hardware}
+use Rattle.world_spec.proofs.Coming.{number_true}
+use Rattle.stage_laws.proofs.OneByOneCopies.{and-false}
+use Rattle.world_spec.proofs.Working.{filter-same}
+use Rattle.world_spec.proofs.Families.{same-sums}
 
 -- what the copies of an event that went had counted
 abbrev pub sums_gone : World → World → EventNo → Sums
@@ -90,25 +94,17 @@ pub next-gone : (hw : Hardware) (w : World) (task : TaskNo) (q : Key) → IsKept
 next-gone hw w task q h x = fold-stays hw w q h (next-live w task q x) x.copy
 
 -- which keys are there then
-and-no : (b : Bool) → (b && false) ≡ false
-and-no true = refl
-and-no false = refl
-
-and-yes : (b : Bool) → (b && true) ≡ b
-and-yes true = refl
-and-yes false = refl
-
 live-then : (w t : World) (q k : Key) → HasGone w t q → is_live t k ≡ (is_live w k && not (is_key q k))
-live-then w t q k g = grind (arith, nat_tests, key-is, is_key-same, and-no, is_key-other, and-yes)
+live-then w t q k g = grind (arith, nat_tests, key-is, is_key-same, and-false, is_key-other, and_true)
 
 live-but : (w t : World) (q : Key) (keys : List Key) → HasGone w t q → filter (is_live t) keys ≡ all_but q (filter (is_live w) keys)
-live-but w t q keys g = filter-within (is_live t) (λ k. is_live w k && not (is_key q k)) keys (λ k some. live-then w t q k g) ∙ sym (filter-twice (is_live w) (λ k. not (is_key q k)) keys)
+live-but w t q keys g = filter-same (is_live t) (λ k. is_live w k && not (is_key q k)) keys (λ k some. live-then w t q k g) ∙ sym (filter-twice (is_live w) (λ k. not (is_key q k)) keys)
 
 -- it is a copy of its own event alone, once
 absent : (hw : Hardware) (v : World) (q : Key) (e : EventNo) → IsKept hw v → (e.0 ≡ (instance_at v q).event.0 → ⊥) → times q (family_of v e).copies ≡ 0
 absent hw v q e h off = elim (cases_eq (times q (family_of v e).copies) 0) [
   | inl none ↦ none
-  | inr some ↦ absurd (off (sym (same-number (instance_at v q).event.0 e.0 (copy-there hw v q e h (omega (arith, some))).1)))
+  | inr some ↦ absurd (off (sym (number_true (instance_at v q).event.0 e.0 (copy-there hw v q e h (omega (arith, some))).1)))
 ]
 
 only-copy : (live same copy : Bool) → live ≡ true → same ≡ true → copy ≡ true → once_if (live && same && copy) ≡ 1
@@ -186,7 +182,7 @@ folded-then hw task v w q e h f x =
           let apart : (k : Key) → 1 ≤ times k (family_of v e).copies → k.0 ≡ q.0 → ⊥ = grind (arith, nat_tests, key-is) in
           g.folded e.0 off ∙ (f.folded e
           ∙ ap (λ ks. plus before (plus_keys (λ k. (account_at v k).sums) ks))
-          (filter-within (λ k. not (is_live w k)) (λ k. not (is_live t k)) (family_of v e).copies (λ k some. ap not (sym (g.others.live k (apart k some))))))
+          (filter-same (λ k. not (is_live w k)) (λ k. not (is_live t k)) (family_of v e).copies (λ k some. ap not (sym (g.others.live k (apart k some))))))
     ]
 
 -- members of a group stay alike

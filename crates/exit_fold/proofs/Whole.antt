@@ -8,9 +8,11 @@ use Rattle.stage_laws.{specs.{OneByOne.{AreIdsOf}, Sound.{IsGrouped, has_id}}, p
 use Rattle.stage_laws.proofs.Totals.{one_if, as_number, total-map, total-same, count_by-is-total}
 use Rattle.world_spec.specs.{Value.{World, is_live, entry_at, instance_at, account_at, standing_at, family_of, times}, StageOf.{stage_of}}
 use Rattle.world_spec.specs.{Kept.{post_at, once_if, plus_keys, IsKept}, Listings.{keys_in}}
-use Rattle.world_spec.proofs.{Counting.{times-filter, AreSameKeys, same-total}, Listings.{context-is, is-numbered}, Moving.{leads-parts}}
-use Rattle.exit_fold.{specs.Leaving.{is_of_task, leaves, HaveGone, IsFolded}, proofs.Contexts.{by-place, keys-at}}
-use Rattle.exit_fold.proofs.{Copies.{copy-there, filter-within}, Walked.{AreFolding}}
+use Rattle.world_spec.proofs.{Counting.{times-filter, AreSameKeys, same-total}, Listings.{context-is, is-numbered, keys-at}, Moving.{leads-parts}}
+use Rattle.exit_fold.{specs.Leaving.{is_of_task, leaves, HaveGone, IsFolded}, proofs.Contexts.{by-place}}
+use Rattle.exit_fold.proofs.{Copies.{copy-there}, Walked.{AreFolding}}
+use Rattle.world_spec.proofs.Working.{filter-same}
+use Rattle.stage_laws.proofs.OneByOne.{eq-turn}
 
 -- no copy of the task is there
 abbrev pub AreNone : TaskNo → World → Type 0
@@ -47,11 +49,11 @@ have-gone hw task v w h f none =
       standings = λ k live. (group-stays hw task v w k f none live).1;
       families = λ e.
           let same : filter (is_live w) (family_of v e).copies ≡ filter (λ k. not (leaves v (Some task) k)) (family_of v e).copies =
-          filter-within (is_live w) (λ k. not (leaves v (Some task) k)) (family_of v e).copies (left e) in
+          filter-same (is_live w) (λ k. not (leaves v (Some task) k)) (family_of v e).copies (left e) in
           f.families e ∙ (λ i. record (family_of v e) { copies = same i });
       folded = λ e.
           let same : filter (λ k. not (is_live w k)) (family_of v e).copies ≡ filter (leaves v (Some task)) (family_of v e).copies =
-          filter-within (λ k. not (is_live w k)) (leaves v (Some task)) (family_of v e).copies (λ k some. ap not (left e k some) ∙ not-not (leaves v (Some task) k)) in
+          filter-same (λ k. not (is_live w k)) (leaves v (Some task)) (family_of v e).copies (λ k some. ap not (left e k some) ∙ not-not (leaves v (Some task) k)) in
           f.folded e ∙ ap (λ ks. plus (slice_index_or v.folded e.0 no_sums) (plus_keys (λ k. (account_at v k).sums) ks)) same;
       lost = f.lost;
       hardware = f.hardware;
@@ -77,9 +79,6 @@ same-keys hw task v w h low f none k =
     ∙ (ap (λ n. cond copy n 0) (sym (keys-at hw v h k (8 + task.0)))
     ∙ sym (times-filter k (λ q. (instance_at v q).copy) (keys_in v (context.Task task)))))))
 
-turned : (m n : ℕ) → as_number (m == n) ≡ as_number (n == m)
-turned m n = grind (arith, nat_tests)
-
 ids-gone : (hw : Hardware) (task : TaskNo) (v w : World) → IsKept hw v → task.0 < 64 → (f : AreFolding hw task v w) → AreNone task w
     → AreIdsOf (filter is_copy (instances_in (stage_of v) (context.Task task))) (map (λ k. (instance_at v k).id) f.taken)
 ids-gone hw task v w h low f none n =
@@ -90,7 +89,7 @@ ids-gone hw task v w h low f none n =
     ap (filter is_copy) (context-is hw v (context.Task task) h) ∙ filter-map is_copy (λ k. (instance_at v k).copy) (instance_at v) (λ k. refl) (keys_in v (context.Task task)) in
     count_by-is-total (λ number. n == number) (map id keys)
     ∙ (total-map (one_if (λ number. n == number)) id keys
-    ∙ (total-same (λ k. as_number (n == id k)) (λ k. as_number (id k == n)) (λ k. turned n (id k)) keys
+    ∙ (total-same (λ k. as_number (n == id k)) (λ k. as_number (id k == n)) (λ k. eq-turn n (id k)) keys
     ∙ (same-total (λ k. as_number (id k == n)) keys found (same-keys hw task v w h low f none)
     ∙ (sym (total-map (one_if (has_id n)) (instance_at v) found)
     ∙ (sym (count_by-is-total (has_id n) (map (instance_at v) found)) ∙ ap (count_by (has_id n)) (sym instances))))))

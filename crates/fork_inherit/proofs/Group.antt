@@ -12,6 +12,8 @@ use Rattle.world_spec.proofs.{Keys.{key-is, is_key-same, is_key-true, times-cons
 use Rattle.world_spec.proofs.{Tables.{post_of}, GoneSibling.{hardware_masks, masks-cons}}
 use Rattle.perf_world.specs.Parts.{MayAdd}
 use Rattle.fork_inherit.specs.Copies.{MayCopy, IsNewCopy, AreCopied}
+use Rattle.world_spec.proofs.Along.{once-both}
+use Rattle.world_spec.proofs.Copying.{at-most-once}
 
 -- the first of some kinds that fit together fit, too
 front-masks : (hw : Hardware) (xs ys : List Kind) (taken : List ℕ) → fits_beside (hardware_masks hw (xs ++ ys)) taken ≡ true → fits_beside (hardware_masks hw xs) taken ≡ true
@@ -36,14 +38,6 @@ front-fits hw xs ys h = record {
 }
 
 -- a member of a leader's group
-once-some : (b : Bool) → 1 ≤ once_if b → b ≡ true
-once-some true h = refl
-once-some false h = absurd (omega (arith, h))
-
-at-most-one : (b : Bool) → once_if b ≤ 1
-at-most-one true = omega arith
-at-most-one false = omega arith
-
 pub record IsMember (v : World) (leader q : Key) : Type 0 where
   pub live : is_live v q ≡ true
   pub led : (entry_at v q).leader ≡ leader
@@ -52,7 +46,7 @@ pub record IsMember (v : World) (leader q : Key) : Type 0 where
 pub member-of : (v : World) (leader q : Key) → IsKept v.hardware v → 1 ≤ times q (entry_at v leader).members → IsMember v leader q
 member-of v leader q h some =
     let parts : (is_live v q ≡ true) × (is_key leader (entry_at v q).leader ≡ true) =
-    leads-parts (is_live v q) (is_key leader (entry_at v q).leader) (once-some (is_member_of (post_at v) leader q) (omega (arith, some, h.linked.members q leader))) in
+    leads-parts (is_live v q) (is_key leader (entry_at v q).leader) (once-both (is_member_of (post_at v) leader q) (omega (arith, some, h.linked.members q leader))) in
     let led : (entry_at v q).leader ≡ leader = key-is (entry_at v q).leader leader (is_key-true leader (entry_at v q).leader parts.1) in
     record { live = parts.0; led = led; together = sym (h.grouped.together q parts.0) ∙ ap (λ k. (entry_at v k).context) led }
 
@@ -75,7 +69,7 @@ not-before v leader done q rest h next some =
       times-all v leader done q rest next q,
       once-true (is_key q q) (is_key-same q q refl),
       h.linked.members q leader,
-      at-most-one (is_member_of (post_at v) leader q),
+      at-most-once (is_member_of (post_at v) leader q),
     )
 
 -- the posts of keys that were there

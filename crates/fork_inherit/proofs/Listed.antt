@@ -13,6 +13,8 @@ use Rattle.world_spec.proofs.{Keys.{key-is, is_key-same, is_key-true, times-cons
 use Rattle.fork_inherit.specs.Copies.{parent_of, inherited_members, inherited_keys, leaders_from, IsNewCopy, AreCopied, MayCopy, MayCopyList}
 use Rattle.fork_inherit.proofs.{Begun.{split-at}, Group.{IsMember, member-of}, Room.{list-leads}}
 use Rattle.world_tables.specs.Places.{picked}
+use Rattle.world_spec.proofs.Copying.{at-most-once}
+use Rattle.world_spec.proofs.Coming.{number_true}
 
 -- more copies after some
 same-parent : (child : TaskNo) (v w : World) (done : List Key) → IsKept v.hardware v → AreCopied child v w done → (q : Key) → is_live v q ≡ true → parent_of w q ≡ parent_of v q
@@ -106,21 +108,14 @@ pub in-list : (v : World) (parent : TaskNo) (pinned : Bool) → IsKept v.hardwar
 in-list v parent true h q = h.linked.pinned q (8 + parent.0)
 in-list v parent false h q = h.linked.flexible q (8 + parent.0)
 
-at-most-one : (b : Bool) → once_if b ≤ 1
-at-most-one true = omega arith
-at-most-one false = omega arith
-
 middle : (a b c : Bool) → 1 ≤ once_if (a && b && c) → b ≡ true
 middle true true c some = refl
 middle true false c some = absurd (omega (arith, some))
 middle false b c some = absurd (omega (arith, some))
 
-same-number : (m n : ℕ) → (m == n) ≡ true → m ≡ n
-same-number m n h = grind (arith, nat_tests, h)
-
 pub led-place : (v : World) (parent : TaskNo) (pinned : Bool) → IsKept v.hardware v → (q : Key) → 1 ≤ times q (leaders_from v parent pinned) → place_of (entry_at v q).context ≡ 8 + parent.0
 led-place v parent pinned h q some =
-    same-number (place_of (entry_at v q).context) (8 + parent.0)
+    number_true (place_of (entry_at v q).context) (8 + parent.0)
     (middle (leads (post_at v) q) (place_of (entry_at v q).context == 8 + parent.0) (if (entry_at v q).pinned then pinned else not pinned) (omega (arith, some, in-list v parent pinned h q)))
 
 task-by-place : (c : Context) (n : ℕ) → place_of c ≡ 8 + n → n < 64 → is_of_task c ≡ true
@@ -166,7 +161,7 @@ is-place v parent pinned place d h low =
     let lead : leads (post_at v) q ≡ true = list-leads v.hardware v (context.Task parent) pinned h q there in
     record {
       there = there;
-      not_before = omega (arith, parts q, own, in-list v parent pinned h q, at-most-one (leads_in (post_at v) (8 + parent.0) pinned q));
+      not_before = omega (arith, parts q, own, in-list v parent pinned h q, at-most-once (leads_in (post_at v) (8 + parent.0) pinned q));
       leads = lead;
       live = (leads-parts (is_live v q) (is_key q (entry_at v q).leader) lead).0;
       before = λ x. omega (arith, parts x);

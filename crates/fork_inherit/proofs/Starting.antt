@@ -6,13 +6,15 @@ use Rattle.perf_base.specs.declared.numbers.{CpuNo.{CpuNo}, Key.{Key}, TaskNo.{T
 use Rattle.perf_base.specs.declared.standing.Context.TheVariants as context
 use Rattle.stage_spec.specs.{Flags.{is_pinned}, Forks.{fork_refusal, new_copies}}
 use Rattle.stage_spec.specs.Stage.{Group, no_groups, lists_of, live_copies, place_of, task_on, status_of, was_used}
-use Rattle.stage_laws.{specs.Sound.{IsSound, AreListed}, proofs.{RunningTasks.{live-used}, Tasks.{first-clear, rest-clear}}}
+use Rattle.stage_laws.{specs.Sound.{IsSound, AreListed}, proofs.Tasks.{first-clear, rest-clear}}
 use Rattle.stage_laws.proofs.{Totals.{total-same, sum_by-is-total}, Counts.{count-append}}
 use Rattle.world_spec.specs.{Kept.{post_at, leads, once_if, copies_in, IsKept}, StageOf.{group_at, lists_at, stage_of}}
 use Rattle.world_spec.specs.Value.{World, Leaders, no_leaders, leaders_of, is_live, entry_at, instance_at, is_key, times}
 use Rattle.world_spec.proofs.{Families.{leaders_both, leaders-at, copies-are}, Keys.{key-is, is_key-true, times-cons, once-false}}
 use Rattle.fork_inherit.specs.Copies.{copies_of_all, inherited_keys, leaders_from, MayCopyList}
 use Rattle.fork_inherit.proofs.{Listed.{in-list}, Room.{task-low, copies-new}}
+use Rattle.world_spec.proofs.Tables.{same_number}
+use Rattle.stage_laws.proofs.OpenHomes.{live-used}
 
 -- what a fork that is not refused says
 pub record IsFree (v : World) (cpu : CpuNo) (child parent : TaskNo) : Type 0 where
@@ -35,15 +37,12 @@ no-times : (q : Key) (keys : List Key) → length keys ≡ 0 → times q keys �
 no-times q [] none = refl
 no-times q (x ∷ keys) none = absurd (omega (arith, none))
 
-same-number : (m n : ℕ) → m ≡ n → (m == n) ≡ true
-same-number m n h = grind (arith, nat_tests, h)
-
 pub none-in : (v : World) (child : TaskNo) (j : Key) → IsKept v.hardware v → lists_of (stage_of v) (context.Task child) ≡ no_groups → is_live v j ≡ true → place_of (entry_at v j).context ≡ 8 + child.0 → ⊥
 none-in v child j h empty live at =
     let l : Leaders = leaders_of v (context.Task child) in
     let lists : lists_at v l ≡ no_groups = sym (get_or-map (lists_at v) v.contexts (place_of (context.Task child)) no_leaders) ∙ empty in
     let q : Key = (entry_at v j).leader in
-    let there : (place_of (entry_at v q).context == 8 + child.0) ≡ true = same-number (place_of (entry_at v q).context) (8 + child.0) (ap place_of (h.grouped.together j live) ∙ at) in
+    let there : (place_of (entry_at v q).context == 8 + child.0) ≡ true = same_number (place_of (entry_at v q).context) (8 + child.0) (ap place_of (h.grouped.together j live) ∙ at) in
     let one : times q (leaders_both l) ≡ 1 = grind (arith, nat_tests, leaders-at) in
     let pinned : times q l.pinned ≡ 0 = no-times q l.pinned (sym (length-map l.pinned (group_at v)) ∙ ap (λ x. length x.pinned) lists) in
     let flexible : times q l.flexible ≡ 0 = no-times q l.flexible (sym (length-map l.flexible (group_at v)) ∙ ap (λ x. length x.flexible) lists) in

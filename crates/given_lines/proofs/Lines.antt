@@ -7,7 +7,7 @@ use Rattle.perf_base.specs.declared.acts.Act.TheVariants as act
 use Rattle.perf_base.specs.declared.reasons.SReason.TheVariants as reason
 use Rattle.script_spec.specs.{Forms.{Version, Form}, Faults.{IsPrintable, rank}}
 use Rattle.script_spec.specs.Forms as form
-use Rattle.script_read.proofs.OneAnswer.{ranked, ranked_back}
+use Rattle.script_read.proofs.OneAnswer.{ranked, ranked_back, rank_one}
 use Rattle.given_lines.specs.declared.given.Given.{Given}
 use Rattle.given_lines.specs.declared.given.Given.TheVariants as given
 use Rattle.given_lines.specs.Given.{IsOfActor, IsOwnLine, IsInRangeFor, IsNamedFor, Each, Keeps, IsBadLine, Says, IsGivenLine}
@@ -62,9 +62,6 @@ pub form_bad : (s : Scripted) (v : Version) (line : List ℕ) → All IsPrintabl
 form_bad s v line plain none = record { earlier = early s v line 2 (omega arith) (λ _. plain); broken = λ k. none k.0 k.1 k.2 }
 
 -- ---- one answer
-
-rank_one : (r q : SReason) → rank r ≡ rank q → r ≡ q
-rank_one r q e = sym (ranked_back r) ∙ (ap ranked e ∙ ranked_back q)
 
 bad_one : (s : Scripted) (v : Version) (line : List ℕ) (r q : SReason) → IsBadLine s v line r → IsBadLine s v line q → r ≡ q
 bad_one s v line r q a b = elim (cases_order (rank r) (rank q)) [

@@ -4,10 +4,7 @@ use Rattle.std.proofs.lemmas.List.{append-nil, length_push, get_or_append_left, 
 use Rattle.script_spec.specs.{Lines.{lines_of}, Forms.{Version}, Texts.{version_of}}
 use Rattle.script_read.specs.Reading.{IsNextLine, HasNoLine}
 use Rattle.given_lines.specs.{Heads.{IsUndeclared, AreDeclared, IsFirstUndeclared}, Passing.{IsPassed}}
-
-get_last : {X : Type 0} (xs : List X) (x d : X) (rest : List X) → get_or (xs ++ x ∷ rest) (length xs) d ≡ x
-get_last [] x d rest = refl
-get_last (y ∷ xs) x d rest = get_last xs x d rest
+use Rattle.script_read.proofs.Whole.{get_last}
 
 pub none_passed : (v : Version) (text : List ℕ) → IsPassed v text 0 text
 none_passed v text = record { front = []; many = refl; lines = refl; declared = All-nil (λ line. IsUndeclared v line → ⊥); few = omega arith }

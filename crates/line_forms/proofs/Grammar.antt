@@ -144,7 +144,7 @@ reader-again ring tries batch h k l =
       decimal-again (codes "batch=") batch [] l,
     ) refl
 
-first_is : (x y : List ℕ) (xs ys : List (List ℕ)) → x ∷ xs ≡ y ∷ ys → x ≡ y
+pub first_is : (x y : List ℕ) (xs ys : List (List ℕ)) → x ∷ xs ≡ y ∷ ys → x ≡ y
 first_is x y xs ys e = cc
 
 -- ---- lines of processors

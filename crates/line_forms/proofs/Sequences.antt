@@ -12,9 +12,7 @@ use Rattle.line_forms.specs.{Words.{◌>>=◌, cut}, Leaves.{digit_of, number, n
 use Rattle.line_forms.{specs.Acts.{seen_in, act_in, processor_in, tool_in}, proofs.Cuts.{cut_here, cut_later, cut_nothing}}
 use Rattle.line_forms.proofs.Spelling.{guard_some, number_takes, number_again, decimal_below, digit_of-glyph, glyph-digit_of}
 use Rattle.line_forms.proofs.Singles.{bind_some, name_takes, name_again}
-
-All-none : {A : Type 0} (P : A → Type 0) → All P []
-All-none P = λ k d l. absurd (omega arith)
+use Rattle.perf_base.proofs.Kept.{All-none}
 
 -- ---- each word of a list
 

@@ -10,7 +10,8 @@ use Rattle.given_lines.specs.declared.given.Given.{Given}
 use Rattle.live_session.specs.{Going.{HasGone, HaveCome}, Outcome.{HasTaken, HasTalked}, Sessions.{HasOpened, ahead_of}, Turns.{AreTurns, Turn, came_text}}
 use Rattle.live_session.specs.declared.{session.Session.{Session}, status.Status.{Status}}
 use Rattle.live_session.specs.declared.status.Status.TheVariants as status
-use Rattle.live_session.proofs.Going.{Rose-before, Takes-then}
+use Rattle.perf_io.proofs.Wrote.{Rose-before}
+use Rattle.line_input.proofs.Taking.{Takes-then}
 
 end-line : (head : List ℕ) (at : Option (List ℕ)) → IsHeadText head ⊎ (HasNoEndLine head × IsAtEnd at) → IsHeadText head ⊎ HasNoEndLine head
 end-line head at (inl h) = inl h

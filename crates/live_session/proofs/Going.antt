@@ -10,32 +10,14 @@ use Rattle.live_session.specs.Turns.{AreTurns, IsOne, IsSaid, Turn, answer_text,
 use Rattle.live_session.specs.{Going.{GoesOn, HasGone, HaveCome}, Outcome.{HasWritten, flushes_after}, Sessions.{HasCome, HasNothing, HasStopped, IsFlushed, IsLiveAfter, IsOfSame, ahead_of}, Texts.{said_text}}
 use Rattle.live_session.specs.declared.{session.Session.{Session}, status.Status.{Status}}
 use Rattle.live_session.specs.declared.status.Status.TheVariants as status
+use Rattle.perf_io.proofs.Wrote.{Rose-before, Adds-then, Adds-nothing}
+use Rattle.line_input.proofs.Taking.{Takes-then}
 
 -- ---- bytes
-
-pub Takes-then : (a b c : Option (List ℕ)) (x y : List ℕ) → Takes a b x → Takes b c y → Takes a c (x ++ y)
-Takes-then None b c x y p q = tt
-Takes-then (Some a) None c x y p q = absurd p
-Takes-then (Some a) (Some b) None x y p q = absurd q
-Takes-then (Some a) (Some b) (Some c) x y p q = p ∙ (ap (λ (t : List ℕ). x ++ t) q ∙ sym (append_assoc x y c))
 
 Takes-nothing : (a : Option (List ℕ)) → Takes a a []
 Takes-nothing None = tt
 Takes-nothing (Some a) = refl
-
-Adds-then : (a b c : Option (List ℕ)) (x y : List ℕ) → Adds a b x → Adds b c y → Adds a c (x ++ y)
-Adds-then None b c x y p q = tt
-Adds-then (Some a) None c x y p q = absurd p
-Adds-then (Some a) (Some b) None x y p q = absurd q
-Adds-then (Some a) (Some b) (Some c) x y p q = q ∙ (ap (λ (t : List ℕ). t ++ y) p ∙ append_assoc a x y)
-
-Adds-nothing : (a : Option (List ℕ)) → Adds a a []
-Adds-nothing None = tt
-Adds-nothing (Some bytes) = sym (append-nil bytes)
-
-pub Rose-before : (last : Option ℕ) (f g h : ℕ) → f ≤ g → Rose last g h → Rose last f h
-Rose-before last f g h l (inl more) = inl (omega (arith, l, more))
-Rose-before last f g h l (inr end) = inr end
 
 -- ---- turns
 

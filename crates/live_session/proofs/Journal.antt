@@ -22,25 +22,14 @@ use Rattle.live_session.specs.Journal.{IsCertified, JournalLaw, act_by, cpu_line
 use Rattle.live_session.specs.Turns.{AreTurns, Came, Cut, IsSaid, Turn, Whole, call_of, calls_in}
 use Rattle.live_session.specs.Turns
 use Rattle.live_session.specs.declared.said.Said.{Said}
+use Rattle.stage_spec.proofs.Machines.{length-below}
+use Rattle.machine.proofs.Declared.{at-below}
 
 -- ---- lists
 
 at-end : {X : Type 0} (xs : List X) (y : X) (ys : List X) → slice_get (xs ++ y ∷ ys) (length xs) ≡ Some y
 at-end [] y ys = refl
 at-end (x ∷ xs) y ys = at-end xs y ys
-
-length-below : (n : ℕ) → length (numbers_below n) ≡ n
-length-below zero = refl
-length-below (suc n) = omega (arith, length-below n, length-append (numbers_below n) (n ∷ []))
-
-at-below : (n i : ℕ) → i < n → get_or (numbers_below n) i 0 ≡ i
-at-below zero i low = absurd (omega (arith, low))
-at-below (suc n) i low = elim (cases_lt i n) [
-  | inl below ↦ get_or_append_left (numbers_below n) (n ∷ []) 0 i (omega (arith, below, length-below n)) ∙ at-below n i below
-  | inr last ↦
-      let is : i ≡ length (numbers_below n) + 0 = omega (arith, last, low, length-below n) in
-      ap (λ j. get_or (numbers_below n ++ n ∷ []) j 0) is ∙ (get_or-append-add (numbers_below n) (n ∷ []) 0 0 ∙ omega (arith, last, low))
-]
 
 -- what a function of the numbers below a number gives at one of them
 found : {X : Type 0} (f : ℕ → List X) (n i : ℕ) → i < n → get_or (map f (numbers_below n)) i [] ≡ f i

@@ -2,7 +2,7 @@
 use Rattle.std.specs.Prelude.{◌≡◌, ℕ, ◌≤◌, List, [], ◌∷◌, Option, Result, Ok, Err, OnErr, length, take}
 use Rattle.std.proofs.Common.{arith, ap, inl, inr, refl, subst, sym}
 use Rattle.perf_io.specs.{declared.outside.Failed.{Failed}, Outside.{Adds, Rose, SinkShows}, Wrote.{Wrote, WroteFront}}
-use Rattle.live_session.proofs.Going.{Rose-before}
+use Rattle.perf_io.proofs.Wrote.{Rose-before}
 
 whole-front : (xs : List ℕ) → take (length xs) xs ≡ xs
 whole-front [] = refl

@@ -7,9 +7,10 @@ use Rattle.sample_ring.specs.{Taking.{with_tail}, InEnds.{InEnd}, Lending.{with_
 use Rattle.sample_ring.specs.RingLists.{InList, OutList, ring_index, with_slot}
 use Rattle.ring_spec.specs.Running.{RingAccount}
 use Rattle.work_account.specs.Ends.{AreAccounts}
-use Rattle.machine.proofs.{RingsThere.{script-numbers}, Pairs.{paired-set}, Places.{place-here, place-later, set-here, set-other}, Spacious.{is-left}}
+use Rattle.machine.proofs.{RingsThere.{script-numbers}, Pairs.{paired-set}, Places.{set-here, set-other}, Spacious.{is-left}}
 use Rattle.machine.specs.Leading.{Kept, LeadTo}
 use Rattle.machine.specs.Readers.{AreBehind, AreFollowing, AreReaders, BehindTo, HasItsReader, HasMet, IsBehind, IsReaderOf, out_of, released_in, released_of_slot}
+use Rattle.work_account.proofs.Sends.{place-here, place-later}
 
 -- readers that follow the ends are behind them, and have released all that they took
 pub following-behind : (words : ℕ) (outs : OutList) (ins : InList) → AreFollowing words outs ins → AreBehind words outs ins

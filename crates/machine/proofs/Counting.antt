@@ -15,6 +15,7 @@ use Rattle.world_spec.proofs.Standing.{briefs-joined, passes-groups}
 use Rattle.cpu_sched.specs.{After.{after_brief}, Briefs.{present_brief}, Sheets.{Held}, Tried.{tried, tries, tries_for}}
 use Rattle.machine.specs.Counted.{AreCounted, AreCountedUnless, IsCounted, IsCountedBy, IsServedBy, Serves, is_idle_line, rescheduled_by, seats_of}
 use Rattle.machine.{specs.Settled.{is_in}, proofs.{Keeping.{filter-below, one-below}, Settling.{cpus_below}}}
+use Rattle.world_spec.proofs.Along.{not-both}
 
 -- as many events are seated as are on
 pub seats-count : (hw : Hardware) (w : World) (cpu : CpuNo) → IsRescheduled hw w cpu → length (seats_at w cpu).events ≡ length (seated hw (stage_of w) cpu)
@@ -142,12 +143,8 @@ still-counted w after l n still = grind (arith, counted-none, none-among, never-
 pub tool-counted : (sheet : Option Held) (w after : World) (l : ToolLine) (before now : ℕ) → IsCounted (ToolStep l) w after before now → IsCountedBy sheet (ToolStep l) w after before now
 tool-counted sheet w after l before now h = record { free = λ served. absurd served; seats = λ served. absurd served; least = λ out. h.least; most = h.most }
 
-both-off : (a b : Bool) → b ≡ false → (a && b) ≡ false
-both-off true b off = off
-both-off false b off = refl
-
 none-on : (w : World) (cpu : CpuNo) (l : CpuLine) → ((other : CpuNo) → touches w.hardware (stage_of w) (CpuStep cpu l) other ≡ false) → rescheduled_by w.hardware (stage_of w) (CpuStep cpu l) ≡ []
-none-on w cpu l off = grind (arith, none-among, both-off)
+none-on w cpu l off = grind (arith, none-among, not-both)
 
 pub refused-cpu_counted : (sheet : Option Held) (w after : World) (cpu : CpuNo) (l : CpuLine) (r : Reason) (n : ℕ) → cpu_refusal (stage_of w) cpu l ≡ Some r
     → IsCountedBy sheet (CpuStep cpu l) w after n n

@@ -7,7 +7,7 @@ use Rattle.std.proofs.lemmas.{List.Sums.{position_or_len_is}, Grind.{get_or-set_
 use Rattle.std.proofs.lemmas.Option.{get_or_from_slice_get, slice_get-get_or, slice_get_within}
 use Rattle.perf_base.specs.{Cpus.{HasCpu}, declared.{lines.{KindLine.{KindLine}, PmuLine.{PmuLine}}, numbers.CpuNo.{CpuNo}}}
 use Rattle.perf_base.{specs.Scripts.{Scripted, AreApart, IsCovered, IsScript}, proofs.Bits.{apart_bits}}
-use Rattle.stage_spec.{specs.{Hardware.{IsHardware, hardware_of, has_cpu, pmu_with}, Numbers.{numbers_below}}, proofs.Machines.{script_machine}}
+use Rattle.stage_spec.{specs.{Hardware.{IsHardware, hardware_of, has_cpu, pmu_with}, Numbers.{numbers_below}}, proofs.Machines.{script_machine, length-below}}
 use Rattle.pmu_model.specs.Pmus.{seen, IsTable}
 
 -- what stands for a PMU and a kind that are not declared
@@ -18,11 +18,7 @@ abbrev pub no_kind : KindLine
 no_kind = record { name = []; pmu = 0; mask = 0 }
 
 -- the numbers below a number, one by one
-length-below : (n : ℕ) → length (numbers_below n) ≡ n
-length-below zero = refl
-length-below (suc n) = omega (arith, length-below n, length-append (numbers_below n) (n ∷ []))
-
-at-below : (n i : ℕ) → i < n → get_or (numbers_below n) i 0 ≡ i
+pub at-below : (n i : ℕ) → i < n → get_or (numbers_below n) i 0 ≡ i
 at-below zero i low = absurd (omega (arith, low))
 at-below (suc n) i low = elim (cases_lt i n) [
   | inl below ↦ get_or_append_left (numbers_below n) (n ∷ []) 0 i (omega (arith, below, length-below n)) ∙ at-below n i below

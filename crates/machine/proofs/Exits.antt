@@ -14,11 +14,14 @@ use Rattle.world_spec.specs.{Kept.{plus_keys, IsKept}, Listings.{keys_in}, Resch
 use Rattle.world_spec.specs.{StageOf.{stage_of}, Value.{World, is_live, entry_at, instance_at, account_at, family_of, times}, Quiet.{KeepsAccount}}
 use Rattle.world_spec.{specs.Stepping.{HasStepped, HasFolded}, proofs.{Lines.{slots-same}, Moving.{leads-parts}, Quiet.{quiet-keeps}, Stepping.{stepped}}}
 use Rattle.cpu_sched.specs.Resched.{StaysBut}
-use Rattle.exit_fold.{specs.Leaving.{leaves, leaving_copies, leaving_sums, HasExited}, proofs.Copies.{leaving-times, no-one, same-sums}}
+use Rattle.exit_fold.{specs.Leaving.{leaves, leaving_copies, leaving_sums, HasExited}, proofs.Copies.{leaving-times}}
 use Rattle.exit_fold.proofs.{Exited.{task-low}, Leaving.{of_event, leaving-mapped, same-keys}}
-use Rattle.machine.{specs.Stepped.{limits_in, IsReady}, proofs.{Keeping.{none-lost, one-below}, Refused.{accepted-cpu}}}
+use Rattle.machine.{specs.Stepped.{limits_in, IsReady}, proofs.{Keeping.{one-below}, Refused.{accepted-cpu}}}
 use Rattle.machine.proofs.{Settling.{one-settled}, TaskChange.{filter-alike}}
 use Rattle.machine.specs.Stepped as stepped_line
+use Rattle.world_spec.proofs.Along.{filter-no}
+use Rattle.world_spec.proofs.Families.{same-sums}
+use Rattle.work_account.proofs.Accounts.{nothing-lost}
 
 -- What is told of an exit: the worlds before it, after it, and after the processor was rescheduled.
 pub record Course (w v x : World) (cpu : CpuNo) : Type 0 where
@@ -104,7 +107,7 @@ gone-live w (Some task) e k h low some = grind (arith, some, same-keys w.hardwar
 
 gone-sums : (w : World) (o : Option TaskNo) (e : EventNo) → IsKept w.hardware w → ((task : TaskNo) → o ≡ Some task → task.0 < 64)
     → leaving_sums w o e ≡ plus_keys (λ k. (account_at w k).sums) (gone_keys w o e)
-gone-sums w None e h low = ap (plus_keys (λ k. (account_at w k).sums)) (no-one (family_of w e).copies)
+gone-sums w None e h low = ap (plus_keys (λ k. (account_at w k).sums)) (filter-no (family_of w e).copies)
 gone-sums w (Some task) e h low =
     sym (same-sums (λ k. (account_at w k).sums) (gone_keys w (Some task) e) (leaving_copies w (Some task) e) (same-keys w.hardware w task e h (low task refl)))
 
@@ -134,7 +137,7 @@ pub exit-done : (w v x : World) (cpu : CpuNo) → Course w v x cpu → stepped_l
 exit-done w v x cpu c by agrees = record {
   answer = accepted-cpu w by cpu line.Exit c.accepted agrees;
   agrees = stepped w.hardware w x by (CpuStep cpu line.Exit) c.kept (subst (λ (hw : Hardware). IsKept hw x) (rest-kept w v x cpu c).hardware c.kept_then) agrees
-      (exit-stepped w v x cpu c) (none-lost cpu line.Exit by.rings);
+      (exit-stepped w v x cpu c) (nothing-lost cpu line.Exit by.rings);
 }
 
 -- the world is ready for the next line

@@ -18,6 +18,10 @@ use Rattle.cpu_sched.specs.Briefs.{ProcessorBrief, brief_at, briefs_at, present_
 use Rattle.exit_fold.{specs.Leaving.{HasExited}, proofs.Exited.{task-low}}
 use Rattle.task_moves.specs.Turning.{last_if, turn_in, turn_keys, turn_of_task, turned_world, turning, waits_there}
 use Rattle.task_moves.proofs.Turning.{flexible-once, found-there}
+use Rattle.cpu_sched.proofs.Bounded.{briefs-append}
+use Rattle.cpu_sched.proofs.Turned.{goes-by, goes-none}
+use Rattle.world_spec.proofs.Listings.{lists-are}
+use Rattle.task_moves.proofs.Rotating.{turned-elsewhere}
 
 -- A group's brief goes by its leader's key and by the group alone.
 abbrev brief_by : Hardware → Key → Group → GroupBrief Key
@@ -81,9 +85,6 @@ pub own-then : (s : Stage) (cpu : CpuNo) (o : Option TaskNo) → cpu.0 < 8 → l
 own-then s cpu None low = refl
 own-then s cpu (Some task) low = grind (arith, get_or-set_other, own-place_apart)
 
-pub lists-are : (w : World) (c : Context) → lists_of (stage_of w) c ≡ lists_at w (leaders_of w c)
-lists-are w c = get_or-map (lists_at w) w.contexts (place_of c) no_leaders
-
 pub exit-foreseen : (w v : World) (cpu : CpuNo) → cpu.0 < 8 → cpu.0 < length w.quiet.running → stage_of v ≡ exited cpu (stage_of w) → HasExited w v (task_on (stage_of w) cpu)
     → present_brief v cpu ≡ after_brief w cpu line.Exit
 unfolding exited
@@ -109,14 +110,6 @@ some-wait w cpu [] = refl
 some-wait w cpu (k ∷ keys) = grind (arith, briefs-cons, wait-cond, some-wait w cpu keys)
 
 -- The first hardware group that is eligible goes last, by leaders and by briefs.
-goes-by : (g : GroupBrief Key) (groups : List (GroupBrief Key)) (b : Bool) → g.software ≡ b → hardware_goes_last (g ∷ groups) ≡ (if b then g ∷ hardware_goes_last groups else groups ++ g ∷ [])
-unfolding hardware_goes_last
-goes-by g groups b e = ap (λ x. if x then g ∷ hardware_goes_last groups else groups ++ g ∷ []) e
-
-goes-none : hardware_goes_last [] ≡ []
-unfolding hardware_goes_last
-goes-none = refl
-
 goes-on : (b s : Bool) (g : GroupBrief Key) (rest : List (GroupBrief Key)) → g.software ≡ s → (b && not s) ≡ true
     → (hardware_goes_last (cond b (g ∷ rest) rest) ≡ rest ++ g ∷ []) × (cond b (g ∷ []) [] ≡ g ∷ [])
 goes-on true true g rest is on = absurd (false≢true on)
@@ -128,9 +121,6 @@ goes-off : (b s : Bool) (g : GroupBrief Key) (rest : List (GroupBrief Key)) → 
 goes-off true true g rest is off = goes-by g rest true is
 goes-off true false g rest is off = absurd (false≢true (sym off))
 goes-off false s g rest is off = refl
-
-briefs-append : (w : World) (cpu : CpuNo) (xs ys : List Key) → briefs_at w cpu (xs ++ ys) ≡ briefs_at w cpu xs ++ briefs_at w cpu ys
-briefs-append w cpu xs ys = grind (arith, filter-append, map-append)
 
 abbrev takes : World → CpuNo → Key → Bool
 takes w cpu k = takes_turns w.hardware cpu (group_at w k)
@@ -186,9 +176,6 @@ turned_with w cpu task = record {
 turned-lists : (w : World) (cpu : CpuNo) (c : Context) → place_of c < length w.contexts → leaders_of (turn_in cpu c w) c ≡ turn_keys w cpu (leaders_of w c)
 turned-lists w cpu c low = get_or-set_same w.contexts (place_of c) (turn_keys w cpu (leaders_of w c)) no_leaders low
 
-elsewhere : (w : World) (cpu : CpuNo) (c d : Context) → place_of d ≢ place_of c → leaders_of (turn_in cpu c w) d ≡ leaders_of w d
-elsewhere w cpu c d apart = get_or-set_other w.contexts (place_of c) (place_of d) (turn_keys w cpu (leaders_of w c)) no_leaders apart
-
 tick-by : (hw : Hardware) (w : World) (cpu : CpuNo) (o : Option TaskNo) → IsKept hw w → cpu.0 < 8 → task_on (stage_of w) cpu ≡ o
     → present_brief (turn_of_task cpu o (turn_in cpu (context.Processor cpu) w)) cpu ≡ turned_with w cpu o
 tick-by hw w cpu None h small on =
@@ -209,9 +196,9 @@ tick-by hw w cpu (Some task) h small on =
     let wide : length first.contexts ≡ 72 = length-set w.contexts (place_of own) (turn_keys w cpu (leaders_of w own)) ∙ size in
     let task_small : task.0 < 64 = task-low hw w cpu task h on in
     let here : leaders_of v own ≡ turn_keys w cpu (leaders_of w own) =
-    elsewhere first cpu other own (own-place_apart cpu task small) ∙ turned-lists w cpu own (omega (arith, size, place_of-cpu cpu small, small)) in
+    turned-elsewhere first cpu other own (own-place_apart cpu task small) ∙ turned-lists w cpu own (omega (arith, size, place_of-cpu cpu small, small)) in
     let there : leaders_of v other ≡ turn_keys w cpu (leaders_of w other) =
-    turned-lists first cpu other (omega (arith, wide, task_small)) ∙ ap (turn_keys w cpu) (elsewhere w cpu own other (λ e. own-place_apart cpu task small (sym e))) in
+    turned-lists first cpu other (omega (arith, wide, task_small)) ∙ ap (turn_keys w cpu) (turned-elsewhere w cpu own other (λ e. own-place_apart cpu task small (sym e))) in
     let own_flexible : briefs_at w cpu (leaders_of v own).flexible ≡ turned_groups w (briefs_at w cpu (leaders_of w own).flexible) =
     ap (λ l. briefs_at w cpu l.flexible) here ∙ turned-flexible hw w cpu own h in
     let task_flexible : briefs_at w cpu (leaders_of v other).flexible ≡ turned_groups w (briefs_at w cpu (leaders_of w other).flexible) =

@@ -7,13 +7,14 @@ use Rattle.perf_base.specs.declared.reply.Reply.TheVariants as reply
 use Rattle.perf_base.specs.declared.standing.Context.TheVariants as context
 use Rattle.stage_spec.specs.{Forks.{fork_refusal, forked}, Hardware.{Hardware}, History.{Step, CpuStep, stage_step}, Limits.{IsMachine}}
 use Rattle.stage_spec.{specs.{Settle.{settle_each}, Shares.{no_sums}, Stage.{Stage, all_cpus}}, proofs.Recurrence.{plus-none}}
-use Rattle.stage_laws.{specs.{Narrowing.{IsNarrow, changed, unless_left, unless_no, touches}, Sound.{IsSound}}, proofs.Narrow.{narrows}}
+use Rattle.stage_laws.{specs.{Narrowing.{IsNarrow, changed, unless_left, unless_no, touches}, Sound.{IsSound}}, proofs.Narrow.{narrows, takes-none}}
 use Rattle.stage_laws.proofs.Sound.{step_sound}
 use Rattle.world_spec.specs.{Kept.{IsKept}, Rescheduled.{AreRescheduled, AreUntouched}, StageOf.{stage_of}, Value.{World, is_live, instance_at}}
 use Rattle.world_spec.{specs.Stepping.{HasStepped}, proofs.{Lines.{slots-same}, Quiet.{quiet-keeps}, Stepping.{stepped}}}
 use Rattle.fork_inherit.specs.Copies.{HasForked}
-use Rattle.machine.{specs.Stepped.{limits_in, IsReady}, proofs.{Keeping.{none-lost}, Refused.{accepted-cpu}, TaskChange.{filter-alike}}}
+use Rattle.machine.{specs.Stepped.{limits_in, IsReady}, proofs.{Refused.{accepted-cpu}, TaskChange.{filter-alike}}}
 use Rattle.machine.specs.Stepped as stepped_line
+use Rattle.work_account.proofs.Accounts.{nothing-lost}
 
 -- What is told of a fork: the worlds before and after it.
 pub record Course (w x : World) (cpu : CpuNo) (child : TaskNo) : Type 0 where
@@ -27,10 +28,6 @@ pub record Course (w x : World) (cpu : CpuNo) (child : TaskNo) : Type 0 where
   pub others : AreUntouched w x
   pub kept_then : IsKept x.hardware x
 
-filter-none : (cpus : List CpuNo) → filter (λ own. false) cpus ≡ []
-filter-none [] = refl
-filter-none (cpu ∷ cpus) = filter-none cpus
-
 settle-none : (hw : Hardware) (s : Stage) → settle_each hw [] s ≡ s
 unfolding settle_each
 settle-none hw s = refl
@@ -43,7 +40,7 @@ fork-stage w x cpu child c =
     let narrow : IsNarrow hw s step = narrows (limits_in w) hw s step c.ready.machine (c.low, c.number) c.ready.sound (λ own low. (c.ready.rescheduled own low).settled) in
     let change : changed hw s step ≡ forked cpu child s = ap (λ o. unless_left o (forked cpu child) s) c.accepted in
     let untouched : (own : CpuNo) → touches hw s step own ≡ false = λ own. ap (λ o. unless_no o false) c.accepted in
-    let none : filter (touches hw s step) (all_cpus s) ≡ [] = filter-alike (touches hw s step) (λ own. false) (all_cpus s) untouched ∙ filter-none (all_cpus s) in
+    let none : filter (touches hw s step) (all_cpus s) ≡ [] = filter-alike (touches hw s step) (λ own. false) (all_cpus s) untouched ∙ takes-none (all_cpus s) in
     c.stage ∙ (sym change ∙ (sym (settle-none hw (changed hw s step)) ∙ (ap (λ cs. settle_each hw cs (changed hw s step)) (sym none) ∙ sym narrow.stage)))
 
 -- a key that names an instance then and did not before names a copy
@@ -91,7 +88,7 @@ pub fork-done : (w x : World) (cpu : CpuNo) (child : TaskNo) → Course w x cpu 
 fork-done w x cpu child c by agrees = record {
   answer = accepted-cpu w by cpu (line.Fork child) c.accepted agrees;
   agrees = stepped w.hardware w x by (CpuStep cpu (line.Fork child)) c.kept (subst (λ (hw : Hardware). IsKept hw x) c.stays.hardware c.kept_then) agrees
-      (fork-stepped w x cpu child c) (none-lost cpu (line.Fork child) by.rings);
+      (fork-stepped w x cpu child c) (nothing-lost cpu (line.Fork child) by.rings);
 }
 
 apart-contexts : (child : TaskNo) (own : CpuNo) → context.Task child ≡ context.Processor own → ⊥

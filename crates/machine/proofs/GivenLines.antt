@@ -5,14 +5,16 @@ use Rattle.perf_base.specs.declared.{lines.{CpuLine.{CpuLine}, ToolLine.{ToolLin
 use Rattle.perf_base.specs.Scripts.{Scripted, IsCovered, IsCpuLine, IsScript}
 use Rattle.stage_spec.specs.{Hardware.{hardware_of}, History.{Step, CpuStep, ToolStep, opening_stage}, Limits.{limits_of}}
 use Rattle.stage_laws.specs.Bounds.{IsLineWithin, is_line}
-use Rattle.ring_laws.proofs.Reached.{count-both, count-one}
+use Rattle.ring_laws.proofs.Reached.{count-one}
 use Rattle.ring_spec.{specs.Running.{Running, AreRepliesBy, IsAnswerBy, record_after}, proofs.Running.{replies_law}}
 use Rattle.sample_ring.specs.RingLists.{OutList}
 use Rattle.work_account.specs.Ends.{HaveAccounts}
 use Rattle.world_spec.specs.{Agreement.{AgreesWith}, Value.{World}}
 use Rattle.machine.specs.{Given.{IsLedBy, IsNext, IsReplyAfter, Takes, is_line_of, record_by}, Leading.{Kept}, Room.{IsLineFor}}
 use Rattle.machine.{specs.Stepped.{IsDone, IsDoneSending, IsDoneWith, IsReady}, proofs.History.{raised, record-more}}
-use Rattle.machine.proofs.{Lines.{as-many-cpus, as-many-kinds}, Roomy.{lines-of-one, one-at-most}, Stepped.{one-cpu, one-tool, tool-sends}}
+use Rattle.machine.proofs.{Lines.{as-many-cpus, as-many-kinds}, Roomy.{lines-of-one}, Stepped.{one-cpu, one-tool, tool-sends}}
+use Rattle.stage_laws.proofs.Counts.{count-append}
+use Rattle.ring_laws.proofs.Losses.{if_some}
 
 -- The line keeps the limits of the machine's world too.
 pub given-tool : (s : Scripted) (steps : List Step) (m : Kept) (line : ToolLine) → IsScript s → IsCovered s → IsReady m.world → IsNext s steps m (ToolStep line) → IsLineFor m.world line
@@ -66,8 +68,8 @@ led-more : (s : Scripted) (steps : List Step) (m : Kept) (x : Step) (counts : Li
     → IsLedBy s (steps ++ x ∷ []) (record { cpus = counts; tools = m.tools; world = after; outs = sent })
 led-more s steps m x counts after sent reply next same done counted = record {
   within = All-push (IsLineWithin (limits_of s)) steps x next.led.within next.within;
-  few = omega (arith, next.few, one-at-most (is_line x), count-both is_line steps (x ∷ []), count-one is_line x []);
-  cpus = λ own. omega (arith, counted own, next.led.cpus own, count-both (is_line_of own) steps (x ∷ []), count-one (is_line_of own) x []);
+  few = omega (arith, next.few, if_some (is_line x), count-append is_line steps (x ∷ []), count-one is_line x []);
+  cpus = λ own. omega (arith, counted own, next.led.cpus own, count-append (is_line_of own) steps (x ∷ []), count-one (is_line_of own) x []);
   hardware = same ∙ next.led.hardware;
   agrees = subst (AgreesWith after) (given-record s steps m x next.led) (given-done s steps m x after sent reply next.led done).done.agrees;
   ends = subst (λ (r : Running). HaveAccounts sent r.rings) (given-record s steps m x next.led) (given-done s steps m x after sent reply next.led done).ends;

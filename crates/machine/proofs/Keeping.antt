@@ -11,11 +11,8 @@ use Rattle.ring_spec.specs.{Running.{RingAccount, losses_on}, Sending.{length_by
 use Rattle.world_spec.specs.{Kept.{IsKept}, Lines.{AreAtHome}, Quiet.{is_quiet}, Rescheduled.{AreRescheduled, AreUntouchedOutside, IsRescheduled}, StageOf.{stage_of}, Stepping.{HasStepped}, Value.{World}}
 use Rattle.world_spec.proofs.{Coming.{number_true}, Lines.{KeepsAll, all-shares, all-slots, slots-become}}
 use Rattle.machine.{specs.{Settled.{is_in}, Stepped.{limits_in, IsReady}}, proofs.Settling.{cpus_below, is-in_set}}
-
--- a line of a processor that sends no record loses none
-pub none-lost : (cpu : CpuNo) (l : CpuLine) (rings : List RingAccount) → flat_map (losses_on (CpuStep cpu l) []) rings ≡ []
-none-lost cpu l [] = refl
-none-lost cpu l (a ∷ rings) = none-lost cpu l rings
+use Rattle.world_spec.proofs.Tables.{same_number, other_number}
+use Rattle.work_account.proofs.Accounts.{nothing-lost}
 
 -- the world after a step is ready for the next line
 pub ready-then : (l : Limits) (w x : World) (step : Step) → IsReady w → IsMachine l w.hardware → IsWithin l step → x.hardware ≡ w.hardware → length x.quiet.running ≡ length w.quiet.running
@@ -39,12 +36,6 @@ kept-ready w x step ready within keeps =
     (λ k cpu live at. let low : cpu.0 < length w.quiet.running = ready.homes k cpu (sym (keeps.live k) ∙ live) (sym (keeps.contexts k) ∙ at) in omega (arith, low, keeps.running))
 
 -- of the processors, one alone
-pub same-number : (m n : ℕ) → m ≡ n → (m == n) ≡ true
-same-number m n h = grind (arith, nat_tests, h)
-
-other-number : (m n : ℕ) → (m ≡ n → ⊥) → (m == n) ≡ false
-other-number m n h = grind (arith, nat_tests, h)
-
 none-below : (own : CpuNo) (n : ℕ) → n ≤ own.0 → filter (λ cpu. own.0 == cpu.0) (cpus_below n) ≡ []
 none-below own zero low = refl
 none-below own (suc n) low =
@@ -52,7 +43,7 @@ none-below own (suc n) low =
     let cpus : cpus_below (suc n) ≡ cpus_below n ++ cpu ∷ [] = map-append (λ k. record { 0 = k }) (numbers_below n) (n ∷ []) in
     ap (filter (λ c. own.0 == c.0)) cpus
     ∙ (filter-append (λ c. own.0 == c.0) (cpus_below n) (cpu ∷ [])
-    ∙ (λ i. none-below own n (omega (arith, low)) i ++ cond (other-number own.0 n (λ e. omega (arith, e, low)) i) (cpu ∷ []) []))
+    ∙ (λ i. none-below own n (omega (arith, low)) i ++ cond (other_number own.0 n (λ e. omega (arith, e, low)) i) (cpu ∷ []) []))
 
 pub one-below : (own : CpuNo) (n : ℕ) → own.0 < n → filter (λ cpu. own.0 == cpu.0) (cpus_below n) ≡ own ∷ []
 one-below own zero low = absurd (omega (arith, low))
@@ -62,9 +53,9 @@ one-below own (suc n) low =
     ap (filter (λ c. own.0 == c.0)) cpus
     ∙ (filter-append (λ c. own.0 == c.0) (cpus_below n) (cpu ∷ [])
     ∙ elim (cases_eq own.0 n) [
-      | inl e ↦ (λ i. none-below own n (omega (arith, e)) i ++ cond (same-number own.0 n e i) (cpu ∷ []) []) ∙ ap (λ k. record { 0 = k } ∷ []) (sym e)
+      | inl e ↦ (λ i. none-below own n (omega (arith, e)) i ++ cond (same_number own.0 n e i) (cpu ∷ []) []) ∙ ap (λ k. record { 0 = k } ∷ []) (sym e)
       | inr apart ↦
-          (λ i. one-below own n (omega (arith, low, apart)) i ++ cond (other-number own.0 n apart i) (cpu ∷ []) []) ∙ append-nil (own ∷ [])
+          (λ i. one-below own n (omega (arith, low, apart)) i ++ cond (other_number own.0 n apart i) (cpu ∷ []) []) ∙ append-nil (own ∷ [])
     ])
 
 -- the processors that are touched are those of the set
@@ -78,7 +69,7 @@ in-by set cpu false there back = grind (arith, nat_tests, false≢true)
 
 -- a set of one processor
 pub is-alone : (own : CpuNo) (set : CpuSet) (other : CpuNo) → (HasCpu set other ↔ (other.0 ≡ own.0)) → is_in set other ≡ (own.0 == other.0)
-is-alone own set other alone = grind (arith, nat_tests, in-by, same-number, number_true)
+is-alone own set other alone = grind (arith, nat_tests, in-by, same_number, number_true)
 
 pub settled-all : (hw : Hardware) (w : World) → AreRescheduled hw w → AreSettled hw (stage_of w)
 settled-all hw w h cpu low = (h cpu low).settled

@@ -9,8 +9,10 @@ use Rattle.perf_base.specs.declared.lines.CpuLine.TheVariants as cpu_line
 use Rattle.stage_spec.specs.History.{Step, CpuStep, ToolStep, SeenStep, cpu_steps, tool_steps, steps_of, steps_from, history}
 use Rattle.stage_spec.specs.Order.{done_by_cpu, is_of_cpu, next_of_cpu, next_of_tool}
 use Rattle.stage_laws.specs.Bounds.{is_line}
-use Rattle.ring_laws.proofs.{Orders.{by_cpus, by_tools, cpus_from, none_done, tools_from, within}, Reached.{count-both, count-one}}
+use Rattle.ring_laws.proofs.{Orders.{by_cpus, by_tools, cpus_from, none_done, tools_from, within}, Reached.{count-one}}
 use Rattle.machine.{specs.Given.{LedByActsLaw, is_line_of}, proofs.History.{cpu-is}}
+use Rattle.stage_laws.proofs.Counts.{count-append}
+use Rattle.ring_laws.proofs.Small.{lines_counted, ones, all_ones}
 
 -- the lines of an order are at most those of the script
 abbrev one_tool : ToolLine → ℕ
@@ -19,22 +21,8 @@ one_tool line = 1
 abbrev one_cpu : CpuLine → ℕ
 one_cpu line = 1
 
-lines-by : (steps : List Step) → count_by is_line steps ≡ sum_by (by_tools one_tool) steps + sum_by (by_cpus one_cpu) steps
-lines-by [] = refl
-lines-by (CpuStep cpu line ∷ steps) = omega (arith, count-one, sum_by-cons, by_tools, by_cpus, lines-by steps)
-lines-by (ToolStep line ∷ steps) = omega (arith, count-one, sum_by-cons, by_tools, by_cpus, lines-by steps)
-lines-by (SeenStep ring place ∷ steps) = grind (arith, nat_tests, count-one, sum_by-cons, by_tools, by_cpus, lines-by steps)
-
-ones : {X : Type 0} (xs : List X) → sum_by (λ x. 1) xs ≡ length xs
-ones [] = refl
-ones (x ∷ xs) = omega (arith, ones xs, sum_by-cons (λ y. 1) x xs)
-
-all-ones : {X : Type 0} (lists : List (List X)) → sum_by (sum_by (λ x. 1)) lists ≡ sum_by length lists
-all-ones [] = refl
-all-ones (xs ∷ lists) = omega (arith, ones xs, all-ones lists, sum_by-cons (sum_by (λ x. 1)) xs lists, sum_by-cons length xs lists)
-
 few-lines : (s : Scripted) (acts : List Act) → IsScript s → count_by is_line (history s acts) ≤ 16384
-few-lines s acts h = omega (arith, lines-by, tools_from, cpus_from, none_done, all-ones)
+few-lines s acts h = omega (arith, lines_counted, tools_from, cpus_from, none_done, all_ones)
 
 -- An act of a processor that has a line left does one line of it.
 of-cpu : (other cpu : CpuNo) (line : Option CpuLine) → ((other.0 == cpu.0) ≡ true → line ≡ None → ⊥)
@@ -71,10 +59,10 @@ unfolding steps_from
 own-lines s before [] cpu h = refl
 own-lines s before (a ∷ acts) cpu h =
     let all : done_by_cpu cpu before + (cond (is_of_cpu cpu a) 1 0 + done_by_cpu cpu acts) ≤ length (lines_of_cpu s cpu) =
-    omega (arith, h, count-both (is_of_cpu cpu) before (a ∷ acts), count-one (is_of_cpu cpu) a acts) in
+    omega (arith, h, count-append (is_of_cpu cpu) before (a ∷ acts), count-one (is_of_cpu cpu) a acts) in
     omega (
       arith,
-      count-both (is_line_of cpu) (steps_of s before a) (steps_from s (before ++ a ∷ []) acts),
+      count-append (is_line_of cpu) (steps_of s before a) (steps_from s (before ++ a ∷ []) acts),
       of-act s before cpu a (has-left (is_of_cpu cpu a) (done_by_cpu cpu before) (done_by_cpu cpu acts) (length (lines_of_cpu s cpu)) all),
       own-lines s (before ++ a ∷ []) acts cpu (subst (λ (l : List Act). done_by_cpu cpu l ≤ length (lines_of_cpu s cpu)) (sym (append_assoc before (a ∷ []) acts)) h),
       count-one (is_of_cpu cpu) a acts,

@@ -11,6 +11,7 @@ use Rattle.stage_spec.{specs.Hardware.{hardware_of}, proofs.Machines.{script_mac
 use Rattle.stage_laws.specs.Bounds.{greatest, most_of_line}
 use Rattle.world_spec.specs.{Shares.{HaveRoom}, Value.{World}}
 use Rattle.machine.specs.{Stepped.{IsReady}, Leading.{Kept, HasLine, LeadTo}, Room.{HasRoom, IsLineFor}}
+use Rattle.stage_laws.proofs.BoundsWhole.{greatest-least}
 
 -- what no processor and no tool has
 pub no-cpu : (s : Scripted) (m : Kept) (cpu : CpuNo) → IsScript s → 8 ≤ cpu.0 → HasLine s m (actor.Processor cpu) → ⊥
@@ -75,14 +76,8 @@ tool-line-within s acts m tool lines d h covered ready led has e =
     (s.rings, subst (λ n. IsToolLine n (length m.world.hardware.kind_pmus) s.rings at) (sym (machine-cpus s acts m h covered ready led)) kinds)
 
 -- a stretch of work has room
-fold-most : (b z : ℕ) (xs : List ℕ) → z ≤ b → All (λ n. n ≤ b) xs → fold max z xs ≤ b
-fold-most b z [] l h = l
-fold-most b z (x ∷ xs) l h =
-    let first : x ≤ b = All-head (λ n. n ≤ b) x xs h in
-    fold-most b (max z x) xs (omega (arith, l, first)) (All-tail (λ n. n ≤ b) x xs h)
-
 pub work-room : (w : World) (kinds : ℕ) (work : Work) → HasRoom w → IsCpuLine kinds (line.Work work) → HaveRoom w (most_of_line (line.Work work))
 work-room w kinds work room h =
-    let hits : greatest work.hits ≤ 1000000000 = fold-most 1000000000 0 work.hits (omega arith) h.hits in
+    let hits : greatest work.hits ≤ 1000000000 = greatest-least 1000000000 0 work.hits (omega arith) h.hits in
     let most : max work.length (greatest work.hits) ≤ 1000000000 = omega (arith, hits, h.length) in
     grind (arith, most)

@@ -13,6 +13,7 @@ use Rattle.stage_spec.specs.{Limits.{Limits, limits_of}, Mapping.{mapped_to, out
 use Rattle.stage_spec.{specs.Stage.{Stage, first_stage}, proofs.Shape.{exited-numbers, rotated-numbers, settle_all-numbers, switched-numbers}}
 use Rattle.stage_laws.specs.Bounds.{IsLineWithin}
 use Rattle.ring_laws.proofs.Orders.{within}
+use Rattle.stage_laws.proofs.Mapped.{placed-mapped, opened-mapped}
 
 abbrev AreDeclared : List (RingNo × ℕ) → Stage → Type 0
 AreDeclared rings s = All (HasRing rings) s.mapped
@@ -27,17 +28,9 @@ cpu-maps hw cpu (cpu_line.Fork child) s = refl
 cpu-maps hw cpu cpu_line.Exit s = (exited-numbers cpu s).mapped
 
 -- a line of a tool maps a ring that is declared, or none
-placed-maps : (leader : Option EventNo) (i : Instance) (s : Stage) → (placed leader i s).mapped ≡ s.mapped
-placed-maps None i s = refl
-placed-maps (Some e) i s = refl
-
-opened-maps : (s : Stage) (slot : EventNo) (attr : Attr) (leader : Option EventNo) → (opened s slot attr leader).mapped ≡ s.mapped
-unfolding opened
-opened-maps s slot attr leader = placed-maps leader (new_original s slot attr) s
-
 tool-maps : (l : Limits) (line : ToolLine) (s : Stage) → IsToolLine l.cpus l.kinds l.rings line → AreDeclared l.rings s → AreDeclared l.rings (tool_changed line s)
 unfolding command_each with_period mapped_to output_to closed
-tool-maps l (tool_line.Open slot attr leader) s within h = subst (All (HasRing l.rings)) (sym (opened-maps s slot attr leader)) h
+tool-maps l (tool_line.Open slot attr leader) s within h = subst (All (HasRing l.rings)) (sym (opened-mapped s slot attr leader)) h
 tool-maps l (tool_line.Enable event group) s within h = h
 tool-maps l (tool_line.Disable event group) s within h = h
 tool-maps l (tool_line.Reset event group) s within h = h

@@ -8,6 +8,7 @@ use Rattle.stage_laws.proofs.Leaders.{find-first, find-later}
 use Rattle.ring_spec.{specs.{Account.{Account}, Rings.{bytes_in}, Running.{RingAccount, ring_after}}, proofs.Running.{in_account}}
 use Rattle.sample_ring.specs.{OutEnds.{OutEnd}, RingLists.{HasRing, ring_index}}
 use Rattle.work_account.specs.Ends.{IsAccountOf, AreAccounts}
+use Rattle.work_account.proofs.Sends.{place-here, place-later}
 
 -- what stands in a list of which one entry was set
 pub set-here : {X : Type 0} (xs : List X) (i : ℕ) (x y : X) → slice_get xs i ≡ Some x → slice_get (slice_set xs i y) i ≡ Some y
@@ -23,12 +24,6 @@ set-other (z ∷ xs) (suc i) zero y off = refl
 set-other (z ∷ xs) (suc i) (suc j) y off = set-other xs i j y (λ e. off (ap suc e))
 
 -- the place of a ring is that of its number
-pub place-here : (n ring : RingNo) (numbers : List RingNo) → n.0 ≡ ring.0 → ring_index (n ∷ numbers) ring ≡ 0
-place-here n ring numbers e = let its : (n.0 == ring.0) ≡ true = grind (arith, nat_tests, e) in ap (λ (b : Bool). cond (not b) (1 + ring_index numbers ring) 0) its
-
-pub place-later : (n ring : RingNo) (numbers : List RingNo) → (n.0 ≡ ring.0 → ⊥) → ring_index (n ∷ numbers) ring ≡ suc (ring_index numbers ring)
-place-later n ring numbers off = grind (arith, nat_tests)
-
 pub ring-is : (m n : RingNo) → m.0 ≡ n.0 → m ≡ n
 ring-is m n e = λ i. record { 0 = e i }
 

@@ -11,7 +11,8 @@ use Rattle.cpu_sched.specs.{After.{after_brief, brief_with}, Briefs.{present_bri
 use Rattle.cpu_sched.proofs.Relabelled.{briefs-relabelled, id_at, one-pass, relabel}
 use Rattle.task_moves.{specs.Turning.{turned_world}, proofs.{Rotating.{is-rotated}, Switching.{switched-on}}}
 use Rattle.machine.{specs.{Prepared.{PreparedLaw, by_ids}, Stepped.{IsReady}}, proofs.Counting.{never-touched}}
-use Rattle.machine.proofs.{Foreseen.{idle-then, lists-are, own-then, switch-foreseen, tick-foreseen}, Ticking.{only-lists}}
+use Rattle.machine.proofs.{Foreseen.{idle-then, own-then, switch-foreseen, tick-foreseen}, Ticking.{only-lists}}
+use Rattle.world_spec.proofs.Listings.{lists-are}
 
 accepted-of : (o : Option Reason) (b : Bool) → unless_no o b ≡ true → o ≡ None
 accepted-of None b on = refl

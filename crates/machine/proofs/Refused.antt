@@ -8,8 +8,8 @@ use Rattle.stage_spec.specs.{Hardware.{Hardware}, History.{CpuStep, ToolStep, cp
 use Rattle.ring_spec.specs.Running.{Running, RingAccount, IsAnswerBy, family_by, losses_on, record_after}
 use Rattle.world_spec.specs.{Agreement.{AgreesWith}, Kept.{IsKept}, StageOf.{stage_of}, Value.{World}, Stepping.{LosesNone}}
 use Rattle.world_spec.proofs.{Quiet.{refused-steps}, Stepping.{stepped}}
-use Rattle.machine.proofs.Keeping.{none-lost}
 use Rattle.machine.specs.Stepped as line
+use Rattle.work_account.proofs.Accounts.{nothing-lost}
 
 -- what no line changes stays where it is refused
 pub stays-same : {X : Type 0} (x : X) (r : Reply) → line.StaysIfRefused x x r
@@ -37,11 +37,11 @@ refused-line w after l r h same refused by agrees = record {
 
 -- lines of processors, of which none but work sends records, and no work is refused
 refused-lose_none : (w : World) (by : Running) (cpu : CpuNo) (l : CpuLine) (r : Reason) → cpu_refusal (stage_of w) cpu l ≡ Some r → LosesNone w.hardware by (CpuStep cpu l)
-refused-lose_none w by cpu (cpu_line.Switch to) r refused = none-lost cpu (cpu_line.Switch to) by.rings
+refused-lose_none w by cpu (cpu_line.Switch to) r refused = nothing-lost cpu (cpu_line.Switch to) by.rings
 refused-lose_none w by cpu (cpu_line.Work work) r refused = absurd (cc)
-refused-lose_none w by cpu cpu_line.Tick r refused = none-lost cpu cpu_line.Tick by.rings
-refused-lose_none w by cpu (cpu_line.Fork child) r refused = none-lost cpu (cpu_line.Fork child) by.rings
-refused-lose_none w by cpu cpu_line.Exit r refused = none-lost cpu cpu_line.Exit by.rings
+refused-lose_none w by cpu cpu_line.Tick r refused = nothing-lost cpu cpu_line.Tick by.rings
+refused-lose_none w by cpu (cpu_line.Fork child) r refused = nothing-lost cpu (cpu_line.Fork child) by.rings
+refused-lose_none w by cpu cpu_line.Exit r refused = nothing-lost cpu cpu_line.Exit by.rings
 
 pub refused-cpu : (w after : World) (cpu : CpuNo) (l : CpuLine) (r : Reason) → IsKept w.hardware w → after ≡ w → cpu_refusal (stage_of w) cpu l ≡ Some r
     → line.IsDone (CpuStep cpu l) w after (reply.Refused r)

@@ -7,9 +7,10 @@ use Rattle.ring_laws.proofs.Orders.{few_words}
 use Rattle.sample_ring.specs.{Taking.{with_tail}, InEnds.{InEnd}, Lending.{with_out, with_reader}, OutEnds.{OutEnd}}
 use Rattle.sample_ring.specs.RingLists.{HasRing, InList, OutList, ring_index, with_slot}
 use Rattle.work_account.specs.Ends.{AreAccounts}
-use Rattle.machine.proofs.{RingsThere.{recorded}, Pairs.{paired-set}, Places.{place-here, place-later, ring-is, set-here, set-other}}
+use Rattle.machine.proofs.{RingsThere.{recorded}, Pairs.{paired-set}, Places.{ring-is, set-here, set-other}}
 use Rattle.machine.specs.{Leading.{Kept, LeadTo}, Readers.{AreBehind, AreTrailing, HasTaken, Trails}}
 use Rattle.run_end.specs.Ended.{words_of_slot}
+use Rattle.work_account.proofs.Sends.{place-here, place-later}
 
 -- two rings at one place are one
 same-place : (numbers : List RingNo) (ring other : RingNo) → HasRing numbers ring → ring_index numbers other ≡ ring_index numbers ring → other ≡ ring

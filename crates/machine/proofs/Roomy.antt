@@ -15,6 +15,7 @@ use Rattle.world_spec.specs.{Agreement.{AgreesWith}, Kept.{IsKept, family_sums},
 use Rattle.world_spec.proofs.{Agreement.{family-agrees}, Families.{open-is}, Staying.{origin-is}}
 use Rattle.machine.specs.{Given.{IsLedBy, is_line_of, record_by}, Leading.{IsWhole, Kept, LeadTo}, Room.{HasRoom}, Totals.{AreUpTo}}
 use Rattle.machine.proofs.{Led.{led-by-acts}, Totals.{further}}
+use Rattle.ring_laws.proofs.Losses.{if_some}
 
 -- what an event has counted by the record of steps is what the definitions over them say
 family-is : (s : Scripted) (steps : List Step) (e : EventNo) → family_by (record_by s steps) e ≡ family_over (hardware_of s) (opening_stage s) steps e
@@ -87,13 +88,9 @@ small-ids s steps m h covered led =
     omega (arith, ap (λ st. st.next_id) stage, few, few-drawn steps, led.few)
 
 -- totals: each processor did few lines
-pub one-at-most : (b : Bool) → cond b 1 0 ≤ 1
-one-at-most true = omega arith
-one-at-most false = omega arith
-
 pub lines-of-one : (cpu : CpuNo) (steps : List Step) → count_by (is_line_of cpu) steps ≤ count_by is_line steps
 lines-of-one cpu [] = omega arith
-lines-of-one cpu (CpuStep other line ∷ steps) = omega (arith, one-at-most, count-one, lines-of-one cpu steps)
+lines-of-one cpu (CpuStep other line ∷ steps) = omega (arith, if_some, count-one, lines-of-one cpu steps)
 lines-of-one cpu (ToolStep line ∷ steps) = omega (arith, lines-of-one cpu steps, count-one (is_line_of cpu) (ToolStep line) steps, count-one is_line (ToolStep line) steps)
 lines-of-one cpu (SeenStep ring place ∷ steps) = grind (arith, count-one, lines-of-one cpu steps)
 

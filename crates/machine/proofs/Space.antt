@@ -15,6 +15,7 @@ use Rattle.world_spec.{specs.{Kept.{IsKept}, StageOf.{stage_of}, Value.{World, i
 use Rattle.world_spec.proofs.Staying.{origin-is}
 use Rattle.work_account.specs.{Ends.{AreAccounts, IsAccountOf}, Sampling.{HasInstance, sent_by}}
 use Rattle.machine.{specs.Left.{IsLeft, SpaceLaw}, proofs.{RingsThere.{recorded}, Shown.{shown}, Sent.{few-sent}}}
+use Rattle.machine.proofs.Roomy.{slot-open}
 
 -- A ring's account is small: its head and its losses by the weight of the script, its size by the limit on sizes.
 record IsSmall (s : Scripted) (a : RingAccount) : Type 0 where
@@ -61,9 +62,6 @@ ends-space s count (n ∷ numbers) (o ∷ outs) (a ∷ accounts) light few h sma
     search (All-cons, end-space, All-head, All-tail, ends-space s count numbers outs accounts light few h.1 (All-tail (IsSmall s) a accounts small))
 
 -- the slot of an event that is there is open, and lost few records
-slot-open : (hw : Hardware) (w : World) (k : Key) → IsKept hw w → is_live w k ≡ true → is_open (stage_of w) (instance_at w k).event ≡ true
-slot-open hw w k h live = grind (arith, origin-is, open-is)
-
 slot-lost : (s : Scripted) (acts : List Act) (w : World) (outs : OutList) (slot : ℕ) → IsScript s → IsCovered s → IsKept w.hardware w → IsLeft s acts w outs → HasInstance w slot
     → slice_index_or w.lost slot 0 ≤ weight s
 slot-lost s acts w outs slot script covered kept left has =

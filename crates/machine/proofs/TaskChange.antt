@@ -18,8 +18,9 @@ use Rattle.world_spec.specs.{Shares.{HaveShares, HaveRoom, with_share, soft_shar
 use Rattle.world_spec.proofs.{Lines.{slots-current}, Quiet.{none-after}, Stepping.{stepped, instance-found}}
 use Rattle.cpu_sched.specs.Resched.{StaysBut}
 use Rattle.machine.{specs.{Stepped.{limits_in, IsReady}, Switched.{migration_shares, two_hits}}, proofs.Refused.{accepted-cpu}}
-use Rattle.machine.proofs.{Keeping.{none-lost, one-below}, Settling.{one-settled}}
+use Rattle.machine.proofs.{Keeping.{one-below}, Settling.{one-settled}}
 use Rattle.machine.specs.Stepped as stepped_line
+use Rattle.work_account.proofs.Accounts.{nothing-lost}
 
 -- no migration leaves the accounts
 pub none-given : (w : World) (cpu : CpuNo) → HaveShares w w (migration_shares false w cpu)
@@ -224,7 +225,7 @@ pub switch-done : (w a b x d : World) (cpu : CpuNo) (to : Option TaskNo) (m : Bo
 switch-done w a b x d cpu to m e by agrees = record {
   answer = accepted-cpu w by cpu (line.Switch to) e.course.accepted agrees;
   agrees = stepped w.hardware w d by (CpuStep cpu (line.Switch to)) e.course.kept (subst (λ (hw : Hardware). IsKept hw d) (slots-kept w a b x d cpu to m e).hardware e.kept_then) agrees
-      (switch-stepped w a b x d cpu to m e) (none-lost cpu (line.Switch to) by.rings);
+      (switch-stepped w a b x d cpu to m e) (nothing-lost cpu (line.Switch to) by.rings);
 }
 
 -- every processor stands as rescheduling leaves it

@@ -11,9 +11,10 @@ use Rattle.world_spec.specs.{Kept.{IsKept}, Rescheduled.{AreUntouchedBut, IsResc
 use Rattle.world_spec.{specs.Value.{World}, proofs.{Lines.{KeepsAll}, Stepping.{stepped}}}
 use Rattle.cpu_sched.specs.Resched.{StaysBut}
 use Rattle.task_moves.specs.Turning.{turn_in, turn_of_task, turned_world}
-use Rattle.machine.{specs.Stepped.{limits_in, IsReady}, proofs.Keeping.{none-lost, kept-stepped, kept-ready, one-below}}
+use Rattle.machine.{specs.Stepped.{limits_in, IsReady}, proofs.Keeping.{kept-stepped, kept-ready, one-below}}
 use Rattle.machine.proofs.Settling.{one-settled}
 use Rattle.machine.specs.Stepped as stepped_line
+use Rattle.work_account.proofs.Accounts.{nothing-lost}
 
 -- What is told of a tick: the worlds before it, after the groups took turns, and after the processor was rescheduled.
 pub record Course (w v x : World) (cpu : CpuNo) : Type 0 where
@@ -57,7 +58,7 @@ tick-done w v x cpu c by agrees =
     record {
       answer = refl;
       agrees = stepped w.hardware w x by (CpuStep cpu line.Tick) c.kept (subst (λ (hw : Hardware). IsKept hw x) keeps.hardware c.kept_then) agrees
-          (kept-stepped w x (CpuStep cpu line.Tick) c.kept c.kept_then keeps refl (λ e. refl) (λ own. refl) (tick-stage w v x cpu c)) (none-lost cpu line.Tick by.rings);
+          (kept-stepped w x (CpuStep cpu line.Tick) c.kept c.kept_then keeps refl (λ e. refl) (λ own. refl) (tick-stage w v x cpu c)) (nothing-lost cpu line.Tick by.rings);
     }
 
 pub tick-ready : (w v x : World) (cpu : CpuNo) → Course w v x cpu → IsRescheduled v.hardware x cpu

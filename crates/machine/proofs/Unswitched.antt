@@ -9,8 +9,9 @@ use Rattle.stage_spec.specs.{Shares.{share, no_sums}, Stage.{task_on}}
 use Rattle.stage_spec.{specs.Switching.{is_running, switch_refusal, switched}, proofs.Recurrence.{plus-none}}
 use Rattle.world_spec.specs.{Kept.{IsKept}, StageOf.{stage_of}, Value.{World, is_live, instance_at, account_at}, Shares.{with_share}}
 use Rattle.world_spec.{specs.Stepping.{HasStepped, HasItsShare}, proofs.Stepping.{stepped, instance-found}}
-use Rattle.machine.{specs.Stepped.{IsReady}, proofs.{Asking.{settled-below}, Refused.{accepted-cpu}, Keeping.{none-lost}, TaskChange.{none-given}}}
+use Rattle.machine.{specs.Stepped.{IsReady}, proofs.{Asking.{settled-below}, Refused.{accepted-cpu}, TaskChange.{none-given}}}
 use Rattle.machine.specs.Stepped as stepped_line
+use Rattle.work_account.proofs.Accounts.{nothing-lost}
 
 pub runs-there : (b : Bool) → not b ≡ false → b ≡ true
 runs-there true h = refl
@@ -60,5 +61,5 @@ still-stepped w cpu to c = record {
 pub unswitched-still : (w : World) (cpu : CpuNo) (to : Option TaskNo) → Still w cpu to → stepped_line.IsDone (CpuStep cpu (line.Switch to)) w w reply.Ok
 unswitched-still w cpu to c by agrees = record {
   answer = accepted-cpu w by cpu (line.Switch to) c.accepted agrees;
-  agrees = stepped w.hardware w w by (CpuStep cpu (line.Switch to)) c.kept c.kept agrees (still-stepped w cpu to c) (none-lost cpu (line.Switch to) by.rings);
+  agrees = stepped w.hardware w w by (CpuStep cpu (line.Switch to)) c.kept c.kept agrees (still-stepped w cpu to c) (nothing-lost cpu (line.Switch to) by.rings);
 }

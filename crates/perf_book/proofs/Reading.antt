@@ -5,9 +5,10 @@ use Rattle.std.proofs.lemmas.List.Elements.{All-tail}
 use Rattle.perf_base.specs.declared.{lines.ReaderLine.{ReaderLine}, numbers.RingNo.{RingNo}}
 use Rattle.sample_ring.specs.{InEnds.{InEnd, IsStill, Reads}, RingLists.{HasRing, InList, IsOut, RingList, ring_index, with_slot}}
 use Rattle.stage_laws.proofs.Leaders.{find-first, find-later}
-use Rattle.machine.proofs.Places.{place-here, place-later, set-here, set-other}
+use Rattle.machine.proofs.Places.{set-here, set-other}
 use Rattle.report_spec.specs.Answers.{line_for}
 use Rattle.perf_book.specs.Running.{AreReady, HasRead, IsReadBy, IsReady, slot_of}
+use Rattle.work_account.proofs.Sends.{place-here, place-later}
 
 -- two rings stand at two places, if one of them is there
 places-apart : (numbers : List RingNo) (ring other : RingNo) → HasRing numbers ring → (other.0 ≡ ring.0 → ⊥) → ring_index numbers other ≡ ring_index numbers ring → ⊥

@@ -13,12 +13,10 @@ use Rattle.report_spec.specs.Answers.{lost_in}
 use Rattle.run_laws.{specs.Growing.{AreLooks, does_line, is_cpu_act, is_look}, proofs.Lines.{counted-cpus, counted-lines, lengths, looks-do-nothing}}
 use Rattle.run_laws.proofs.Rings.{few-rings}
 use Rattle.perf_book.specs.Book.{AreLooksOf, Booked, IsBooked, HasRoomFor, MayAct, loads_by}
+use Rattle.stage_laws.proofs.Counts.{count-append}
 
 count-push : {X : Type 0} (p : X → Bool) (xs : List X) (x : X) → count_by p (xs ++ x ∷ []) ≡ count_by p xs + cond (p x) 1 0
 count-push p xs x = sum_by_push (λ y. cond (p y) 1 0) xs x
-
-count-append : {X : Type 0} (p : X → Bool) (xs ys : List X) → count_by p (xs ++ ys) ≡ count_by p xs + count_by p ys
-count-append p xs ys = sum_by-append (λ y. cond (p y) 1 0) xs ys
 
 cond-least : (b : Bool) → cond {A = ℕ} b 1 0 ≤ 1
 cond-least true = omega arith

@@ -4,17 +4,17 @@ use Rattle.std.proofs.{lemmas.{Bool.{false≢true}, Grind.{common_steps}, List.{
 use Rattle.std.specs.Result.{IsErr}
 use Rattle.perf_io.specs.{Outside.{Adds, Rose, SinkShows}, Wrote.{Wrote}, declared.outside.Failed.{Failed}}
 
-Adds-then : (a b c : Option (List ℕ)) (x y : List ℕ) → Adds a b x → Adds b c y → Adds a c (x ++ y)
+pub Adds-then : (a b c : Option (List ℕ)) (x y : List ℕ) → Adds a b x → Adds b c y → Adds a c (x ++ y)
 Adds-then None b c x y p q = tt
 Adds-then (Some a) None c x y p q = absurd p
 Adds-then (Some a) (Some b) None x y p q = absurd q
 Adds-then (Some a) (Some b) (Some c) x y p q = q ∙ (ap (λ t. t ++ y) p ∙ append_assoc a x y)
 
-Adds-nothing : (a : Option (List ℕ)) → Adds a a []
+pub Adds-nothing : (a : Option (List ℕ)) → Adds a a []
 Adds-nothing None = tt
 Adds-nothing (Some bytes) = sym (append-nil bytes)
 
-Rose-before : (last : Option ℕ) (f g h : ℕ) → f ≤ g → Rose last g h → Rose last f h
+pub Rose-before : (last : Option ℕ) (f g h : ℕ) → f ≤ g → Rose last g h → Rose last f h
 Rose-before last f g h l (inl more) = inl (omega arith)
 Rose-before last f g h l (inr end) = inr end
 

@@ -5,29 +5,25 @@ use Rattle.std.proofs.lemmas.{Bool.{cases_Bool, false≢true}, List.{get_or-set_
 use Rattle.perf_base.specs.declared.{numbers.{EventNo.{EventNo}, Key.{Key}, TaskNo.{TaskNo}}, reply.Sums.{Sums}}
 use Rattle.stage_spec.specs.{Hardware.{Hardware}, Opening.{is_used}, Shares.{no_sums}}
 use Rattle.world_spec.specs.{First.{first_world}, Kept.{IsKept}, StageOf.{stage_of}, Value.{World, instance_at, is_live}}
-use Rattle.world_spec.proofs.Coming.{number_true}
+use Rattle.world_spec.proofs.Coming.{number_true, three}
 use Rattle.world_tables.specs.Places.{Slots}
 use Rattle.perf_world.specs.Settling.{AreClear}
+use Rattle.world_spec.proofs.First.{replicated}
 
 -- the same of the slots and of what was used, as the tables have them
 abbrev pub AreClearIn : List EventNo → Slots → Type 0
 AreClearIn used f = (e : EventNo) → list_any (λ u. u.0 == e.0) used ≡ false → (slice_index_or f.folded e.0 no_sums ≡ no_sums) × (slice_index_or f.lost e.0 0 ≡ 0)
 
 -- none was used at first
-same-all : {X : Type 0} (n i : ℕ) (x : X) → slice_index_or (replicate n x) i x ≡ x
-same-all zero i x = refl
-same-all (suc n) zero x = refl
-same-all (suc n) (suc i) x = same-all n i x
-
 pub clear-first : (hw : Hardware) (declared : List TaskNo) → AreClear (first_world hw declared)
-clear-first hw declared e unused = (same-all 256 e.0 no_sums, same-all 256 e.0 0)
+clear-first hw declared e unused = (replicated 256 e.0 no_sums, replicated 256 e.0 0)
 
 -- a family changes, or a slot is used
 pub clear-family : (used : List EventNo) (f after : Slots) → after.folded ≡ f.folded → after.lost ≡ f.lost → AreClearIn used f → AreClearIn used after
 clear-family used f after folded lost h e unused =
     (ap (λ xs. slice_index_or xs e.0 no_sums) folded ∙ (h e unused).0, ap (λ xs. slice_index_or xs e.0 0) lost ∙ (h e unused).1)
 
-neither : (a b : Bool) → (a || b) ≡ false → a ≡ false
+pub neither : (a b : Bool) → (a || b) ≡ false → a ≡ false
 neither true b h = absurd (cc)
 neither false b h = refl
 
@@ -40,17 +36,11 @@ pub clear-used : (b : Bool) (used now : List EventNo) (x : EventNo) (f : Slots) 
 clear-used b used now x f is h e unused = h e (fewer-used b used x e (sym (ap (list_any (λ (u : EventNo). u.0 == e.0)) is) ∙ unused))
 
 -- the slot of an instance was used
-original-parts : (live same copy : Bool) → (live && same && not copy) ≡ true → (live ≡ true) × (same ≡ true) × (copy ≡ false)
-original-parts true true false h = (refl, refl, refl)
-original-parts true true true h = absurd (cc)
-original-parts true false copy h = absurd (cc)
-original-parts false same copy h = absurd (cc)
-
 live-used : (hw : Hardware) (w : World) (k : Key) → IsKept hw w → is_live w k ≡ true → is_used (stage_of w) (instance_at w k).event ≡ true
 live-used hw w k h live = elim (cases_Bool (instance_at w k).copy) [
   | inl copy ↦
       let o = h.apart.original k live copy in
-      let parts = original-parts (is_live w o.0) ((instance_at w o.0).event.0 == (instance_at w k).event.0) (instance_at w o.0).copy o.1 in
+      let parts = three (is_live w o.0) ((instance_at w o.0).event.0 == (instance_at w k).event.0) (instance_at w o.0).copy o.1 in
       ap (λ n. list_any (λ (u : EventNo). u.0 == n) w.quiet.used) (sym (number_true (instance_at w o.0).event.0 (instance_at w k).event.0 parts.1)) ∙ h.lawful.used o.0 parts.0 parts.2
   | inr first ↦ h.lawful.used k live first
 ]

@@ -1,4 +1,4 @@
--- How many events a kept world has: the originals and the copies.
+-- How many events a kept world once-both: the originals and the copies.
 use Rattle.std.specs.Prelude.{◌≡◌, ℕ, ◌+◌, ◌-◌, ◌<◌, ◌≤◌, ◌==◌, Bool, true, false, not, cond, is_some, List, [], ◌∷◌, length, map, filter, count_by, Option, Some, None, slice_index_or}
 use Rattle.std.specs.Cmp.{unsigned_tied}
 use Rattle.std.specs.FinMap.{FinMap, get, contains_key, remove, empty, len, len-remove, get-remove, get-empty, len-empty, empty_of_len, same_map, nat_cmp-IsAntisymmetric}
@@ -12,22 +12,16 @@ use Rattle.world_spec.{specs.Kept.{post_at, once_if, in_option, copies_in, is_or
 use Rattle.world_spec.proofs.{Counting.{times-filter}, Families.{all_keys, times-keys, instances-are, copies-are}}
 use Rattle.world_spec.proofs.Keys.{times-cons, once-true, once-false, is_key-same, is_key-other}
 use Rattle.perf_world.proofs.Room.{few, fewer}
+use Rattle.world_spec.proofs.Along.{once-both}
+use Rattle.world_spec.proofs.Copying.{at-most-once}
 
--- a table whose keys are those of a list, each once, has as many keys
+-- a table whose keys are those of a list, each once, once-both as many keys
 tied : (q k : ℕ) (b : Bool) → (q == k) ≡ b → eq_by_cmp nat_cmp q k ≡ b
 tied q k b e = unsigned_tied q k ∙ e
 
 no-value : {X : Type 0} (o : Option X) → 0 ≡ once_if (is_some o) → o ≡ None
 no-value None e = refl
 no-value (Some x) e = absurd (omega (arith, e))
-
-has : (b : Bool) → 1 ≤ once_if b → b ≡ true
-has true h = refl
-has false h = absurd (omega (arith, h))
-
-once-low : (b : Bool) → once_if b ≤ 1
-once-low true = omega arith
-once-low false = omega arith
 
 some-len : {X : Type 0} (m : FinMap nat_cmp X) (k : ℕ) → contains_key m k ≡ true → 1 ≤ len m
 some-len m k there = elim (cases_eq (len m) 0) [
@@ -40,7 +34,7 @@ len-keys {X} [] m h =
     let none : (q : ℕ) → get m q ≡ None = λ q. no-value (get m q) (h (record { 0 = q })) in
     ap len (same_map nat_cmp_total nat_cmp-IsAntisymmetric m empty (λ q. none q ∙ sym (get-empty nat_cmp q))) ∙ len-empty nat_cmp X
 len-keys (k ∷ keys) m h =
-    let here : contains_key m k.0 ≡ true = has (contains_key m k.0) (omega (arith, h k, times-cons k k keys, once-true (is_key k k) (is_key-same k k refl))) in
+    let here : contains_key m k.0 ≡ true = once-both (contains_key m k.0) (omega (arith, h k, times-cons k k keys, once-true (is_key k k) (is_key-same k k refl))) in
     let rest : FinMap nat_cmp _ = remove m k.0 in
     let fewer_keys : (q : Key) → times q keys ≡ once_if (contains_key rest q.0) = λ q. elim (cases_eq q.0 k.0) [
       | inl e ↦
@@ -80,13 +74,13 @@ module _ (hw : Hardware) (w : World) (h : IsKept hw w) where
   original-there : (q : Key) → 1 ≤ times q originals → (is_live w q ≡ true) × ((instance_at w q).copy ≡ false)
   original-there q there = elim (cases_Bool (is_of_copy q)) [
     | inl e ↦ absurd (omega (arith, there, times-filter q (λ k. not (is_of_copy k)) (all_keys w), ap (λ b. cond (not b) (times q (all_keys w)) 0) e))
-    | inr e ↦ (has (is_live w q) (omega (arith, there, times-keys hw w h q, times-filter q (λ k. not (is_of_copy k)) (all_keys w), ap (λ b. cond (not b) (times q (all_keys w)) 0) e)), e)
+    | inr e ↦ (once-both (is_live w q) (omega (arith, there, times-keys hw w h q, times-filter q (λ k. not (is_of_copy k)) (all_keys w), ap (λ b. cond (not b) (times q (all_keys w)) 0) e)), e)
   ]
 
   original-once : (q : Key) → times q originals ≤ 1
   original-once q = elim (cases_Bool (is_of_copy q)) [
     | inl e ↦ omega (arith, times-filter q (λ k. not (is_of_copy k)) (all_keys w), ap (λ b. cond (not b) (times q (all_keys w)) 0) e)
-    | inr e ↦ omega (arith, times-filter q (λ k. not (is_of_copy k)) (all_keys w), ap (λ b. cond (not b) (times q (all_keys w)) 0) e, times-keys hw w h q, once-low (is_live w q))
+    | inr e ↦ omega (arith, times-filter q (λ k. not (is_of_copy k)) (all_keys w), ap (λ b. cond (not b) (times q (all_keys w)) 0) e, times-keys hw w h q, at-most-once (is_live w q))
   ]
 
   in-slot : (q : Key) (slot : ℕ) → is_live w q ≡ true → (instance_at w q).copy ≡ false → (instance_at w q).event.0 ≡ slot

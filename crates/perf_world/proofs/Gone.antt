@@ -11,6 +11,7 @@ use Rattle.world_spec.proofs.{Accounts.{counts_are_sums, times_are_sums}, Keys.{
 use Rattle.world_tables.specs.{Columns.{Columns, is_there, entry_in, account_in, taken}, Places.{Slots, Places, IsBelow, with_family}}
 use Rattle.perf_world.{specs.{Parts.{free_one, left_events, left_contexts, behind}, Seen.{seen, IsWorld}}, proofs.Kept.{part-of-sum, in-family}}
 use Rattle.perf_world.proofs.Tables.{freed-keys}
+use Rattle.world_spec.proofs.Copies.{times-at}
 
 -- freed siblings, in the world and in the table
 module _ (hw : Hardware) (contexts : List Leaders) (families : Slots) (processors : Places) (tasks : List TaskStatus) (used : List EventNo) (mapped : List RingNo) (next : ℕ) where
@@ -47,7 +48,7 @@ after-times : (q : Key) (keys : List Key) → times q (after_first keys) ≤ tim
 after-times q [] = omega arith
 after-times q (k ∷ keys) = omega (arith, times-cons q k keys)
 
-counted : (b c : Bool) → 1 ≤ once_if (b && c) → b ≡ true
+pub counted : (b c : Bool) → 1 ≤ once_if (b && c) → b ≡ true
 counted true c h = refl
 counted false c h = absurd (omega (arith, h))
 
@@ -110,11 +111,6 @@ pub dropped-kept : (k : Key) (w : World) → IsKept w.hardware (drop_instance k 
 dropped-kept k w h = subst (λ hw. IsKept hw (drop_instance k w)) (sym (group-hardware k (is_key k (entry_at w k).leader) w)) h
 
 -- a key at a place of a list stands in it
-pub times-at : (keys : List Key) (i : ℕ) (d : Key) → i < length keys → 1 ≤ times (slice_index_or keys i d) keys
-times-at [] i d low = absurd (omega arith)
-times-at (k ∷ keys) zero d low = omega (arith, times-cons k k keys, once-true (is_key k k) (let same : is_key k k ≡ true = grind (arith, nat_tests) in same))
-times-at (k ∷ keys) (suc i) d low = omega (arith, times-cons (slice_index_or keys i d) k keys, times-at keys i d (omega (arith, low)))
-
 pub member-live : (hw : Hardware) (w : World) (h : IsKept hw w) (k q : Key) → 1 ≤ times q (entry_at w k).members → is_live w q ≡ true
 member-live hw w h k q there = counted (is_live w q) (is_key k (entry_at w q).leader) (omega (arith, there, h.linked.members q k))
 

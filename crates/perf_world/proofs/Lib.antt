@@ -1,12 +1,12 @@
-mod Added
-mod Clear
+pub mod Added
+pub mod Clear
 mod Counted
-mod Gone
+pub mod Gone
 mod Kept
-mod Room
+pub mod Room
 mod Running
 mod Seats
-mod Tables
-mod Turning
+pub mod Tables
+pub mod Turning
 mod TurnedGone
 mod Worked

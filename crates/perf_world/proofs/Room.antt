@@ -11,6 +11,8 @@ use Rattle.world_spec.specs.{Kept.{post_at, leads, leads_in, is_member_of, is_co
 use Rattle.world_spec.proofs.Keys.{times-cons, once-true, once-false, is_key-same, is_key-true, is_key-other, key-is, times-all_but_same, times-all_but_other}
 use Rattle.world_tables.specs.Places.{picked}
 use Rattle.perf_world.specs.Parts.{HaveRoomBehind}
+use Rattle.world_spec.proofs.Coming.{number_true}
+use Rattle.world_spec.proofs.Moving.{leads-parts}
 
 -- in a list in which each key stands once at most, and in which a number tells keys apart, the numbers differ
 module _ (f : Key → ℕ) where
@@ -73,19 +75,11 @@ at_most_one : (b : Bool) (n : ℕ) → n ≡ once_if b → n ≤ 1
 at_most_one true n e = omega (arith, e)
 at_most_one false n e = omega (arith, e)
 
-three-true : (a b c : Bool) → (a && b && c) ≡ true → (a ≡ true) × (b ≡ true) × (c ≡ true)
+pub three-true : (a b c : Bool) → (a && b && c) ≡ true → (a ≡ true) × (b ≡ true) × (c ≡ true)
 three-true true true true h = (refl, refl, refl)
 three-true true true false h = absurd (cc)
 three-true true false c h = absurd (cc)
 three-true false b c h = absurd (cc)
-
-two-true : (a b : Bool) → (a && b) ≡ true → (a ≡ true) × (b ≡ true)
-two-true true true h = (refl, refl)
-two-true true false h = absurd (cc)
-two-true false b h = absurd (cc)
-
-same-number : (m n : ℕ) → (m == n) ≡ true → m ≡ n
-same-number m n h = grind (arith, nat_tests, h)
 
 module _ (hw : Hardware) (w : World) (h : IsKept hw w) where
   -- the leaders in a list of a place
@@ -97,7 +91,7 @@ module _ (hw : Hardware) (w : World) (h : IsKept hw w) where
       → (leads (post_at w) q ≡ true) × (is_live w q ≡ true) × (place_of (entry_at w q).context ≡ place)
   listed b place q there =
       let yes = three-true _ _ _ (counted (leads_in (post_at w) place b q) _ (times-listed b place q) there) in
-      (yes.0, (two-true _ _ yes.0).0, same-number _ _ yes.1)
+      (yes.0, (leads-parts _ _ yes.0).0, number_true _ _ yes.1)
 
   one-event : (place : ℕ) (j k : Key) → is_live w j ≡ true → is_live w k ≡ true → place_of (entry_at w j).context ≡ place → place_of (entry_at w k).context ≡ place
       → (instance_at w j).event.0 ≡ (instance_at w k).event.0 → j.0 ≡ k.0
@@ -118,7 +112,7 @@ module _ (hw : Hardware) (w : World) (h : IsKept hw w) where
   -- keys that name nothing stand in no list
   pub unlisted : (b : Bool) (place : ℕ) (q : Key) → is_live w q ≡ false → times q (picked b (slice_index_or w.contexts place no_leaders)) ≡ 0
   unlisted b place q dead = elim (cases_Bool (leads_in (post_at w) place b q)) [
-    | inl e ↦ absurd (let l : is_live w q ≡ true = (two-true _ _ (three-true _ _ _ e).0).0 in cc (l, dead))
+    | inl e ↦ absurd (let l : is_live w q ≡ true = (leads-parts _ _ (three-true _ _ _ e).0).0 in cc (l, dead))
     | inr e ↦ times-listed b place q ∙ once-false (leads_in (post_at w) place b q) e
   ]
 
@@ -126,7 +120,7 @@ module _ (hw : Hardware) (w : World) (h : IsKept hw w) where
   pub copy-there : (slot : ℕ) (q : Key) → 1 ≤ times q (slice_index_or w.families slot no_family).copies → (is_live w q ≡ true) × ((instance_at w q).event.0 ≡ slot)
   copy-there slot q there =
       let yes = three-true _ _ _ (counted (is_copy_in (post_at w) slot q) _ (h.linked.copies q slot) there) in
-      (yes.0, same-number _ _ yes.1)
+      (yes.0, number_true _ _ yes.1)
 
   pub copies-room : (slot place : ℕ) → place < 72
       → ((j : Key) → is_live w j ≡ true → (instance_at w j).event.0 ≡ slot → place_of (entry_at w j).context ≡ place → ⊥)
@@ -152,7 +146,7 @@ module _ (hw : Hardware) (w : World) (h : IsKept hw w) where
   pub sibling-there : (k : Key) → leads (post_at w) k ≡ true → (q : Key) → 1 ≤ times q (after_first (entry_at w k).members)
       → (is_live w q ≡ true) × (is_key k (entry_at w q).leader ≡ true)
   sibling-there k lead q there =
-      two-true _ _ (counted (is_member_of (post_at w) k q) (times q (after_first (entry_at w k).members) + once_if (is_key q k)) (siblings-are k lead q) (omega (arith, there)))
+      leads-parts _ _ (counted (is_member_of (post_at w) k q) (times q (after_first (entry_at w k).members) + once_if (is_key q k)) (siblings-are k lead q) (omega (arith, there)))
 
   -- what stays of a flexible list that loses a leader
   flexible-rest : (k : Key) (b : Bool) (place : ℕ) (q : Key)
@@ -169,7 +163,7 @@ module _ (hw : Hardware) (w : World) (h : IsKept hw w) where
       let lead : (entry_at w q).leader.0 ≡ k.0 = is_key-true k (entry_at w q).leader of in
       let no_leader : is_key q (entry_at w q).leader ≡ false = is_key-other q (entry_at w q).leader (λ e. off (sym e ∙ lead)) in
       elim (cases_Bool (leads (post_at w) q)) [
-        | inl e ↦ absurd (let l : is_key q (entry_at w q).leader ≡ true = (two-true (is_live w q) (is_key q (entry_at w q).leader) e).1 in cc (l, no_leader))
+        | inl e ↦ absurd (let l : is_key q (entry_at w q).leader ≡ true = (leads-parts (is_live w q) (is_key q (entry_at w q).leader) e).1 in cc (l, no_leader))
         | inr e ↦ e
       ]
 
@@ -182,7 +176,7 @@ module _ (hw : Hardware) (w : World) (h : IsKept hw w) where
       let l : Leaders = slice_index_or w.contexts place no_leaders in
       let rest : List Key = (in_list (entry_at w k).pinned (all_but k) l).flexible in
       let siblings : List Key = after_first (entry_at w k).members in
-      let live : is_live w k ≡ true = (two-true _ _ lead).0 in
+      let live : is_live w k ≡ true = (leads-parts _ _ lead).0 in
       let all : (q : Key) → times q (rest ++ siblings) ≡ times q rest + times q siblings = λ q. count-append (is_key q) rest siblings in
       let once : (q : Key) → times q (rest ++ siblings) ≤ 1 = λ q.
       let few_rest : times q rest ≤ once_if (leads_in (post_at w) place false q) = omega (arith, flexible-rest k (entry_at w k).pinned place q, times-listed false place q) in
@@ -195,7 +189,7 @@ module _ (hw : Hardware) (w : World) (h : IsKept hw w) where
           | inr e ↦ omega (arith, all q, few_siblings, once-false (is_member_of (post_at w) k q) e, few_rest, at_most_one (leads_in (post_at w) place false q) _ refl)
           | inl e ↦
               let no_list : leads_in (post_at w) place false q ≡ false =
-              ap (λ b. b && place_of (entry_at w q).context == place && (if (entry_at w q).pinned then false else true)) (sibling-leads-not k q (two-true (is_live w q) (is_key k (entry_at w q).leader) e).1 off) in
+              ap (λ b. b && place_of (entry_at w q).context == place && (if (entry_at w q).pinned then false else true)) (sibling-leads-not k q (leads-parts (is_live w q) (is_key k (entry_at w q).leader) e).1 off) in
               omega (arith, all q, few_siblings, at_most_one (is_member_of (post_at w) k q) _ refl, few_rest, once-false (leads_in (post_at w) place false q) no_list)
         ]
       ] in

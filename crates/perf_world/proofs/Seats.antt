@@ -8,6 +8,7 @@ use Rattle.perf_base.specs.{Masks.{IsMask}, declared.numbers.{EventNo.{EventNo},
 use Rattle.stage_spec.specs.{declared.instance.TaskStatus.{TaskStatus}, Fits.{IsAssignment}, Numbers.{numbers_below}}
 use Rattle.stage_spec.specs.{Stage.{fresh_task, unknown_task, first_stage}, Tight.{masks_of}}
 use Rattle.counter_match.specs.Seating.{Seated, AreDistinct, IsSound}
+use Rattle.stage_spec.proofs.Machines.{length-below}
 
 seats-more : (old new : Seated) (group : List (EventNo × ℕ)) → IsSound old → new.counters ≡ old.counters → new.events ≡ old.events ++ group
     → IsAssignment (masks_of new.events) new.seats → AreDistinct (old.events ++ group) → All (IsMask old.counters) (masks_of group) → IsSound new
@@ -35,23 +36,19 @@ or-false false = refl
 abbrev pub status_by : List TaskNo → ℕ → TaskStatus
 status_by declared n = if list_any (λ task. task.0 == n) declared then fresh_task else unknown_task
 
-length-numbers : (n : ℕ) → length (numbers_below n) ≡ n
-length-numbers zero = refl
-length-numbers (suc n) = omega (arith, length-append (numbers_below n) (n ∷ []), length-numbers n)
-
 number-at : (n i d : ℕ) → i < n → slice_index_or (numbers_below n) i d ≡ i
 number-at zero i d low = absurd (omega arith)
 number-at (suc n) i d low = elim (cases_eq i n) [
-  | inl e ↦ ap (λ k. slice_index_or (numbers_below n ++ n ∷ []) k d) (e ∙ sym (length-numbers n)) ∙ (get_or-append_seam (numbers_below n) n [] d ∙ sym e)
-  | inr off ↦ get_or-append (numbers_below n) (n ∷ []) d i (omega (arith, low, off, length-numbers n)) ∙ number-at n i d (omega (arith, low, off))
+  | inl e ↦ ap (λ k. slice_index_or (numbers_below n ++ n ∷ []) k d) (e ∙ sym (length-below n)) ∙ (get_or-append_seam (numbers_below n) n [] d ∙ sym e)
+  | inr off ↦ get_or-append (numbers_below n) (n ∷ []) d i (omega (arith, low, off, length-below n)) ∙ number-at n i d (omega (arith, low, off))
 ]
 
 pub statuses-are : (declared : List TaskNo) (tasks : List TaskStatus) → length tasks ≡ 64 → ((n : ℕ) → n < 64 → slice_index_or tasks n unknown_task ≡ status_by declared n)
     → tasks ≡ map (status_by declared) (numbers_below 64)
 statuses-are declared tasks size h =
-    ext_get_or unknown_task tasks (map (status_by declared) (numbers_below 64)) (omega (arith, size, length-map (numbers_below 64) (status_by declared), length-numbers 64)) (λ i low.
+    ext_get_or unknown_task tasks (map (status_by declared) (numbers_below 64)) (omega (arith, size, length-map (numbers_below 64) (status_by declared), length-below 64)) (λ i low.
     h i (omega (arith, low, size))
-    ∙ sym (get_or-map (status_by declared) (numbers_below 64) i 0 unknown_task (omega (arith, low, size, length-numbers 64)) ∙ ap (status_by declared) (number-at 64 i 0 (omega (arith, low, size)))))
+    ∙ sym (get_or-map (status_by declared) (numbers_below 64) i 0 unknown_task (omega (arith, low, size, length-below 64)) ∙ ap (status_by declared) (number-at 64 i 0 (omega (arith, low, size)))))
 
 pub status-more : (declared : List TaskNo) (tasks : List TaskStatus) (task : TaskNo) (n : ℕ) → task.0 < length tasks → slice_index_or tasks n unknown_task ≡ status_by declared n
     → slice_index_or (slice_set tasks task.0 fresh_task) n unknown_task ≡ status_by (declared ++ task ∷ []) n

@@ -14,10 +14,12 @@ use Rattle.world_spec.specs.Value.{World, Entry, Leaders, no_entry, no_leaders, 
 use Rattle.world_spec.specs.{Kept.{post_at, leads, once_if, is_member_of, IsKept}, Changes.{place}, Metering.{goes_along, IsWorked, HasMeterRoom}}
 use Rattle.world_spec.specs.{Shares.{HaveRoom}, Ways.{Way, IsTurned, KeepsWay, is_context_of, is_on_at}}
 use Rattle.world_spec.proofs.{Keys.{key-is, is_key-same, is_key-other, times-cons, once-true, once-false}, Metering.{work-kept, work-ways}}
-use Rattle.world_spec.proofs.{Moving.{leads-parts}, Tables.{get-here, get-there}, Ways.{still-turned, outside-context}}
+use Rattle.world_spec.proofs.{Moving.{leads-parts}, Tables.{get-here, get-there}, Ways.{still-turned, outside-context, turn-about}}
 use Rattle.world_tables.specs.{Columns.{Columns, is_there, way_in, put_way}, Meters.{goes_along as along, no_way}, Places.{Places}}
 use Rattle.perf_world.specs.Seen.{IsWorld}
 use Rattle.perf_world.specs.Settling.{bare, AreClear, AreLed, HasSettled, AreTurned, IsStored, group_keys, list_keys, task_leaders, task_keys}
+use Rattle.world_spec.proofs.Copies.{times-at}
+use Rattle.world_spec.proofs.WaysGone.{leader-live}
 
 -- what is stored goes along an equation
 pub stored-after : (t : Columns) (seen after : World) → seen ≡ after → IsWorld after → AreTurned t after → AreClear seen → IsStored t seen
@@ -59,7 +61,7 @@ more-settled p xs ys t mid new a b = record {
   others = λ k none. b.others k (omega (arith, none, both-times k xs ys)) ∙ a.others k (omega (arith, none, both-times k xs ys));
 }
 
-take-next : (keys : List Key) (i : ℕ) (d : Key) → i < length keys → take (i + 1) keys ≡ take i keys ++ slice_index_or keys i d ∷ []
+pub take-next : (keys : List Key) (i : ℕ) (d : Key) → i < length keys → take (i + 1) keys ≡ take i keys ++ slice_index_or keys i d ∷ []
 take-next keys i d low = ap (λ n. take n keys) (let e : i + 1 ≡ suc i = omega arith in e) ∙ take-suc keys i d low
 
 pub next-settled : (p : Places) (keys : List Key) (i : ℕ) (d : Key) (t mid new : Columns) → i < length keys → HasSettled (take i keys) p t mid
@@ -86,13 +88,6 @@ group-settled p leaders i d t mid new low a b =
 pub still-led : (t mid : Columns) (keys : List Key) → mid ≡ record t { ways = mid.ways } → AreLed t keys → AreLed mid keys
 still-led t mid keys same led = subst (λ (x : Columns). AreLed x keys) (sym same) led
 
--- a key in a list is there
-pub times-at : (keys : List Key) (i : ℕ) (d : Key) → i < length keys → 1 ≤ times (slice_index_or keys i d) keys
-times-at [] i d low = absurd (omega (arith, low))
-times-at (k ∷ keys) zero d low = (let own : is_key k k ≡ true = grind (arith, nat_tests) in omega (arith, times-cons k k keys, once-true (is_key k k) own))
-times-at (k ∷ keys) (suc i) d low =
-    omega (arith, times-at keys i d (omega (arith, low)), times-cons (slice_index_or keys i d) k keys)
-
 -- a member of one of some groups
 pub group-in : (t : Columns) (leaders : List Key) (i : ℕ) (d : Key) (k : Key) → i < length leaders → 1 ≤ times k (group_keys t (slice_index_or leaders i d)) → 1 ≤ times k (list_keys t leaders)
 group-in t [] i d k low some = absurd (omega (arith, low))
@@ -106,9 +101,6 @@ pub written-part : {X : Type 0} (f : Entry → X) (w : World) (k : Key) (e : Ent
 written-part f w k e same j = grind (arith, nat_tests, get-here, key-is, get-there)
 
 -- In a kept world the leader of an event is there, and so are the members of groups.
-pub leader-live : (hw : Hardware) (w : World) (k : Key) → IsKept hw w → is_live w k ≡ true → is_live w (entry_at w k).leader ≡ true
-leader-live hw w k h live = (leads-parts (is_live w (entry_at w k).leader) (is_key (entry_at w k).leader (entry_at w (entry_at w k).leader).leader) (h.grouped.led k live)).0
-
 member-live : (hw : Hardware) (w : World) (q k : Key) → IsKept hw w → 1 ≤ times k (entry_at w q).members → is_live w k ≡ true
 member-live hw w q k h some =
     (leads-parts (is_live w k) (is_key q (entry_at w k).leader) (once-both (is_member_of (post_at w) q k) (omega (arith, some, h.linked.members k q)))).0
@@ -138,16 +130,6 @@ pub task-nowhere : (running : List (Option TaskNo)) (task : TaskNo) → ((cpu : 
 task-nowhere running task none cpu = grind (arith, nat_tests, is_task-some)
 
 -- the tests of a way, part by part
-pub on-there : (ready stands there : Bool) → ((ready && stands) && there) ≡ ((ready && there) && stands)
-on-there true true there = sym (both-right there)
-  where
-    both-right : (b : Bool) → (b && true) ≡ b
-    both-right true = refl
-    both-right false = refl
-on-there true false true = refl
-on-there true false false = refl
-on-there false stands there = refl
-
 pub on-ready : (ready stands : Bool) → (ready && stands) ≡ true → ready ≡ true
 on-ready true stands h = refl
 on-ready false stands h = absurd (false≢true h)
@@ -212,7 +194,7 @@ module _ (hw : Hardware) (w : World) (h : IsKept hw w) (t : Columns) (contexts :
       (ap (times k) (flat_map-append (λ q. (entry_at w q).members) (leaders_of w c).pinned (leaders_of w c).flexible) ∙ (ap (times k) (sym keys) ∙ none))
 
 -- a task on a processor has a number below 64
-live-below : (tasks : List TaskStatus) (n : ℕ) → is_live_task (slice_index_or tasks n unknown_task).state ≡ true → n < length tasks
+pub live-below : (tasks : List TaskStatus) (n : ℕ) → is_live_task (slice_index_or tasks n unknown_task).state ≡ true → n < length tasks
 live-below tasks n live = grind (arith, nat_tests, cases_lt, false≢true, get_or_past)
 
 pub running-below : (hw : Hardware) (w : World) (cpu : CpuNo) (o : Option TaskNo) → IsKept hw w → o ≡ task_on (stage_of w) cpu → IfSome o (λ t. t.0 < 64)

@@ -6,10 +6,11 @@ use Rattle.perf_base.specs.declared.lines.CpuLine.TheVariants as cpu_line
 use Rattle.stage_spec.specs.{declared.instance.TaskStatus.{TaskStatus}, Families.{plus}, Hardware.{Hardware}, Shares.{counted_by, no_sums}}
 use Rattle.stage_laws.specs.Bounds.{most_of_line}
 use Rattle.world_spec.specs.{Value.{World, Leaders, is_live, instance_at, account_at}, Metering.{IsWorked, HasMeterRoom, work_given, goes_along}}
-use Rattle.world_spec.{specs.{Shares.{HaveRoom}, Ways.{Way, is_ready_at, is_on_at, IsTurned}}, proofs.{Along.{along-is}, Metering.{counted-most}}}
+use Rattle.world_spec.{specs.{Shares.{HaveRoom}, Ways.{Way, is_ready_at, is_on_at, IsTurned}}, proofs.Along.{along-is}}
 use Rattle.world_tables.specs.{Columns.{Columns, HasRoomForWork, way_in, given_in}, Meters.{given}, Places.{Slots, Places}}
 use Rattle.world_tables.specs.Columns as tables
 use Rattle.perf_world.{specs.{Seen.{seen, IsWorld}, Settling.{AreTurned}}, proofs.Kept.{own-count, own-time}}
+use Rattle.stage_laws.proofs.BoundsStep.{counted-le}
 
 -- what an account is given by its way is what its instance is given
 module _ (work : Work) (cpu : CpuNo) (a : Attr) where
@@ -56,7 +57,7 @@ module _ (hw : Hardware) (t : Columns) (contexts : List Leaders) (families : Slo
             arith,
             room.counts k live,
             own-count hw (world t) k h live,
-            counted-most work (instance_at (world t) k).attr (instance_at (world t) k).attr.kind,
+            counted-le work (instance_at (world t) k).attr (instance_at (world t) k).attr.kind,
           );
     }
 

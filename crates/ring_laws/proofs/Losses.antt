@@ -19,7 +19,7 @@ none_of n [] h = refl
 none_of n (r ∷ rings) h =
     omega (arith, apart-none n r.0.0 (All-head (λ (q : RingNo × ℕ). n ≢ q.0.0) r rings h), none_of n rings (All-tail (λ (q : RingNo × ℕ). n ≢ q.0.0) r rings h), count-one (λ (q : RingNo × ℕ). n == q.0.0) r rings)
 
-if_some : (b : Bool) → cond b 1 0 ≤ 1
+pub if_some : (b : Bool) → cond b 1 0 ≤ 1
 if_some true = omega arith
 if_some false = omega arith
 

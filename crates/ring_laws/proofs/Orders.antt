@@ -14,7 +14,8 @@ use Rattle.stage_spec.specs.History.{Step, CpuStep, ToolStep, SeenStep, cpu_step
 use Rattle.stage_spec.proofs.Machines.{script_machine}
 use Rattle.ring_spec.{specs.Sending.{sent_by_steps}, proofs.Sizes.{ring_words_law}}
 use Rattle.stage_laws.specs.Bounds.{IsLineWithin}
-use Rattle.ring_laws.{specs.Few.{period_by, opens_by, shares_by, IsLeast, FewOfScriptLaw, FewWordsLaw}, proofs.{Few.{few_sent}, Reached.{count-both}}}
+use Rattle.ring_laws.{specs.Few.{period_by, opens_by, shares_by, IsLeast, FewOfScriptLaw, FewWordsLaw}, proofs.Few.{few_sent}}
+use Rattle.stage_laws.proofs.Counts.{count-append}
 
 -- what the lines of some lists that are left come to, where so many of each are done
 pub left_in : {X : Type 0} → (X → ℕ) → (ℕ → ℕ) → List (List X) → ℕ
@@ -74,19 +75,19 @@ abbrev pub cpus_done : List Act → ℕ → ℕ
 cpus_done before i = done_by_cpu (record { 0 = i }) before
 
 tools_more : (before : List Act) (a : Act) (i : ℕ) → tools_done before i ≤ tools_done (before ++ a ∷ []) i
-tools_more before a i = omega (arith, count-both (is_of_tool (record { 0 = i })) before (a ∷ []))
+tools_more before a i = omega (arith, count-append (is_of_tool (record { 0 = i })) before (a ∷ []))
 
 cpus_more : (before : List Act) (a : Act) (i : ℕ) → cpus_done before i ≤ cpus_done (before ++ a ∷ []) i
-cpus_more before a i = omega (arith, count-both (is_of_cpu (record { 0 = i })) before (a ∷ []))
+cpus_more before a i = omega (arith, count-append (is_of_cpu (record { 0 = i })) before (a ∷ []))
 
 same_number : (n : ℕ) → (n == n) ≡ true
 same_number n = grind (arith, nat_tests)
 
 tools_now : (before : List Act) (tool : ToolNo) → tools_done (before ++ act.Tool tool ∷ []) tool.0 ≡ suc (tools_done before tool.0)
-tools_now before tool = count-both (is_of_tool tool) before (act.Tool tool ∷ []) ∙ (rw (same_number tool.0) (omega arith))
+tools_now before tool = count-append (is_of_tool tool) before (act.Tool tool ∷ []) ∙ (rw (same_number tool.0) (omega arith))
 
 cpus_now : (before : List Act) (cpu : CpuNo) → cpus_done (before ++ act.Processor cpu ∷ []) cpu.0 ≡ suc (cpus_done before cpu.0)
-cpus_now before cpu = count-both (is_of_cpu cpu) before (act.Processor cpu ∷ []) ∙ (rw (same_number cpu.0) (omega arith))
+cpus_now before cpu = count-append (is_of_cpu cpu) before (act.Processor cpu ∷ []) ∙ (rw (same_number cpu.0) (omega arith))
 
 tools_act : (s : Scripted) (g : ToolLine → ℕ) (before : List Act) (a : Act)
     → sum_by (by_tools g) (steps_of s before a) + left_in g (tools_done (before ++ a ∷ [])) s.tool_lines ≤ left_in g (tools_done before) s.tool_lines

@@ -6,24 +6,14 @@ use Rattle.stage_spec.specs.{declared.instance.Instance.{Instance}, Hardware.{Ha
 use Rattle.stage_spec.specs.{Effective.{is_ready}, Commands.{is_reached}}
 use Rattle.stage_spec.specs.Verdict.{reached, Judged, is_eligible, judge, judge_pass, judge_passes, passes, verdicts, on_instances}
 use Rattle.stage_spec.proofs.Each.{Each}
+use Rattle.stage_laws.proofs.Counts.{count-append, count-filter}
 
 -- a processor reaches at most one instance of a family
 abbrev pub IsOneReached : Stage → Type 0
 IsOneReached s = (cpu : CpuNo) (e : EventNo) → count_by (is_of_family e) (reached s cpu) ≤ 1
 
-pub count-both : {X : Type 0} (p : X → Bool) (xs ys : List X) → count_by p (xs ++ ys) ≡ count_by p xs + count_by p ys
-count-both p xs ys = sum_by-append (λ x. cond (p x) 1 0) xs ys
-
 pub count-one : {X : Type 0} (p : X → Bool) (x : X) (xs : List X) → count_by p (x ∷ xs) ≡ cond (p x) 1 0 + count_by p xs
 count-one p x xs = sum_by-cons (λ y. cond (p y) 1 0) x xs
-
-count-filter : {X : Type 0} (p q : X → Bool) (xs : List X) → count_by p (filter q xs) ≤ count_by p xs
-count-filter p q [] = omega arith
-count-filter p q (x ∷ xs) = one (q x) (count-filter p q xs)
-  where
-    one : (b : Bool) → count_by p (filter q xs) ≤ count_by p xs → count_by p (cond b (x ∷ filter q xs) (filter q xs)) ≤ count_by p (x ∷ xs)
-    one true h = omega (arith, h, count-one p x xs, count-one p x (filter q xs))
-    one false h = omega (arith, h, count-one p x xs)
 
 -- by groups, and by what was judged
 abbrev in_groups : (Instance → Bool) → List Group → ℕ
@@ -48,7 +38,7 @@ on-fewer p (j ∷ judged) = one (stands_on j.standing) (on-fewer p judged)
           h,
           sum_by-cons (λ k. count_by p (members_of k.group)) j judged,
           count-filter p (λ i. is_ready i.own) (members_of j.group),
-          count-both p (filter (λ i. is_ready i.own) (members_of j.group)) (flat_map (λ g. filter (λ i. is_ready i.own) (members_of g)) (map (λ k. k.group) (filter (λ k. stands_on k.standing) judged))),
+          count-append p (filter (λ i. is_ready i.own) (members_of j.group)) (flat_map (λ g. filter (λ i. is_ready i.own) (members_of g)) (map (λ k. k.group) (filter (λ k. stands_on k.standing) judged))),
         )
     one false h = omega (arith, h, sum_by-cons (λ k. count_by p (members_of k.group)) j judged)
 
@@ -90,7 +80,7 @@ fewer-passes p q (pass ∷ ps) = omega (arith, fewer-passes p q ps, fewer-groups
 
 all-groups : (p : Instance → Bool) (groups : List Group) → in_groups p groups ≡ count_by p (members groups)
 all-groups p [] = refl
-all-groups p (g ∷ groups) = omega (arith, all-groups p groups, sum_by-cons (λ (k : Group). count_by p (members_of k)) g groups, count-both p (members_of g) (members groups))
+all-groups p (g ∷ groups) = omega (arith, all-groups p groups, sum_by-cons (λ (k : Group). count_by p (members_of k)) g groups, count-append p (members_of g) (members groups))
 
 all-passes : (p : Instance → Bool) (ps : List (List Group)) → sum_by (in_groups p) ps ≡ count_by p (members (flat_map (λ pass. pass) ps))
 all-passes p [] = refl

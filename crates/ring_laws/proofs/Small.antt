@@ -8,11 +8,11 @@ use Rattle.stage_laws.{specs.Bounds.{is_line}, proofs.{BoundsWhole.{family_small
 use Rattle.ring_laws.{specs.Clocks.{SmallSumsOfScriptLaw, SmallClockOfScriptLaw}, proofs.Clocks.{clock_small}}
 use Rattle.ring_laws.proofs.Orders.{none_done, by_tools, by_cpus, tools_from, cpus_from, within}
 
-ones : {X : Type 0} (xs : List X) → sum_by (λ x. 1) xs ≡ length xs
+pub ones : {X : Type 0} (xs : List X) → sum_by (λ x. 1) xs ≡ length xs
 ones [] = refl
 ones (x ∷ xs) = omega (arith, ones xs, sum_by-cons (λ y. 1) x xs)
 
-all_ones : {X : Type 0} (lists : List (List X)) → sum_by (sum_by (λ x. 1)) lists ≡ sum_by length lists
+pub all_ones : {X : Type 0} (lists : List (List X)) → sum_by (sum_by (λ x. 1)) lists ≡ sum_by length lists
 all_ones [] = refl
 all_ones (xs ∷ lists) = omega (arith, ones xs, all_ones lists, sum_by-cons (sum_by (λ x. 1)) xs lists, sum_by-cons length xs lists)
 
@@ -22,7 +22,7 @@ one_tool line = 1
 abbrev one_cpu : CpuLine → ℕ
 one_cpu line = 1
 
-lines_counted : (steps : List Step) → count_by is_line steps ≡ sum_by (by_tools one_tool) steps + sum_by (by_cpus one_cpu) steps
+pub lines_counted : (steps : List Step) → count_by is_line steps ≡ sum_by (by_tools one_tool) steps + sum_by (by_cpus one_cpu) steps
 lines_counted [] = refl
 lines_counted (CpuStep cpu line ∷ steps) = omega (
   arith,

@@ -255,7 +255,7 @@ read-same f g l m s e h = one (group_of s e) (original_of s e) refl refl
         find-holds (InGroup (Alike f g l m)) (λ k. list_any (is_original e) (members_of k)) (all_groups s) group (joined-Each (Alike f g l m) members_of (all_groups s) all) p in
         ap (words_unless_error (is_error (state_in group i))) (words-same f g l m group i here (find-holds (Alike f g l m) (is_original e) (all_instances s) i all q))
 
-unless-same : (refusal : Option Reason) (a : Reply) (P Q : Type 0) → (P → Q) → UnlessRefused refusal a P → UnlessRefused refusal a Q
+pub unless-same : (refusal : Option Reason) (a : Reply) (P Q : Type 0) → (P → Q) → UnlessRefused refusal a P → UnlessRefused refusal a Q
 unless-same (Some r) a P Q f h = h
 unless-same None a P Q f h = f h
 

@@ -34,7 +34,7 @@ below : (n p l : ℕ) → 0 < p → overflows n p l * p < n + p
 below n p zero pos = rw (zero_is_one n p) (omega (arith, filled n p 1 pos))
 below n p (suc l) pos = omega (arith, filled n p (suc l) pos)
 
-none_by : (n l : ℕ) → overflows n 0 l ≡ 0
+pub none_by : (n l : ℕ) → overflows n 0 l ≡ 0
 unfolding overflows
 none_by zero l = refl
 none_by (suc n) l = omega (arith, none_by n (left_after_one 0 l))

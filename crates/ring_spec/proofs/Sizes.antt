@@ -15,7 +15,7 @@ use Rattle.ring_spec.specs.Rings.{is_to, sends_to, looks_at, events_by, events_f
 use Rattle.ring_spec.proofs.{Cutting.{back, block-of}, Rings.{sends_law}}
 
 -- a field has at most one word, so a body has at most 8 and a trailer at most 6
-field-short : (bit sample word : ℕ) → length (field bit sample word) ≤ 1
+pub field-short : (bit sample word : ℕ) → length (field bit sample word) ≤ 1
 field-short bit sample word = one (bit_and sample bit == 0)
   where
     one : (b : Bool) → length (if b then [] else word ∷ []) ≤ 1
@@ -25,7 +25,7 @@ field-short bit sample word = one (bit_and sample bit == 0)
 and_field : (xs : List ℕ) (n : ℕ) → length xs ≤ n → (bit sample word : ℕ) → length (xs ++ field bit sample word) ≤ n + 1
 and_field xs n h bit sample word = omega (arith, h, field-short bit sample word, length-append xs (field bit sample word))
 
-body-short : (sample : ℕ) (f : Fields) → length (body_of sample f) ≤ 8
+pub body-short : (sample : ℕ) (f : Fields) → length (body_of sample f) ≤ 8
 body-short sample f = grind (arith, and_field)
 
 trailer-short : (sample : ℕ) (f : Fields) → length (trailer_of sample f) ≤ 6
@@ -35,7 +35,7 @@ trailer-short sample f = grind (arith, and_field)
 abbrev IsSized : SentSample → Type 0
 IsSized sent = (length sent.body ≤ 8) × (length sent.trailer ≤ 6)
 
-trailer_if-short : (b : Bool) (sample : ℕ) (f : Fields) → length (trailer_if b sample f) ≤ 6
+pub trailer_if-short : (b : Bool) (sample : ℕ) (f : Fields) → length (trailer_if b sample f) ≤ 6
 trailer_if-short true sample f = trailer-short sample f
 trailer_if-short false sample f = omega arith
 
@@ -204,7 +204,7 @@ cut-at ((x ∷ xs) ∷ blocks) (r ∷ records) n h k e =
     cut-at blocks records (n - m) (All-tail IsBlock (x ∷ xs) blocks h) (All-tail IsRecord r records k) (back (x ∷ xs) (record_words r) (concat blocks) (take (n - m) more) same (e ∙ cut)) in
     record { few = suc rest.few; cut = cut ∙ ap (λ ws. record_words r ++ ws) rest.cut }
 
-sum_from : (a : ℕ) (xs : List ℕ) → fold ◌+◌ a xs ≡ a + sum xs
+pub sum_from : (a : ℕ) (xs : List ℕ) → fold ◌+◌ a xs ≡ a + sum xs
 sum_from a [] = omega arith
 sum_from a (x ∷ xs) = sum_from (a + x) xs ∙ omega (arith, sum_from (0 + x) xs)
 

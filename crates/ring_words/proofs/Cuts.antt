@@ -3,6 +3,7 @@ use Rattle.std.proofs.Common.{◌≡◌, ℕ, zero, suc, ◌*◌, List, [], ◌�
 use Rattle.std.specs.List.{concat}
 use Rattle.ring_spec.specs.Whole.{size_field, IsBlock, IsWhole}
 use Rattle.ring_words.specs.Ends.{LeadsTo, BeginsBlock}
+use Rattle.ring_spec.proofs.Cutting.{back}
 
 first_of : (b : List ℕ) (bs : List (List ℕ)) → All IsBlock (b ∷ bs) → IsBlock b
 first_of b bs all = all zero [] (omega arith)
@@ -11,12 +12,6 @@ others_of : (b : List ℕ) (bs : List (List ℕ)) → All IsBlock (b ∷ bs) →
 others_of b bs all = λ k d h. all (suc k) d (omega (arith, h))
 
 -- two equal lists, cut at one length
-same_cut : (r t xs ys : List ℕ) → length r ≡ length t → r ++ xs ≡ t ++ ys → xs ≡ ys
-same_cut [] [] xs ys e same = same
-same_cut [] (y ∷ t) xs ys e same = absurd (omega arith)
-same_cut (x ∷ r) [] xs ys e same = absurd (omega arith)
-same_cut (x ∷ r) (y ∷ t) xs ys e same = same_cut r t xs ys (omega (arith, e)) (cc)
-
 begins : (w : ℕ) (ys : List ℕ) (cs bs : List (List ℕ)) → All IsBlock cs → All IsBlock bs → concat cs ++ w ∷ ys ≡ concat bs
     → BeginsBlock w (8 * length (concat cs)) (8 * length (concat cs ++ w ∷ ys))
 begins w ys [] [] all all' e = absurd (cc)
@@ -36,7 +31,7 @@ begins w ys ((f ∷ r) ∷ cs) ((g ∷ t) ∷ bs) all all' e =
     let same : f ≡ g = cc in
     let behind : r ++ (concat cs ++ w ∷ ys) ≡ t ++ concat bs = cc in
     let long : length r ≡ length t = omega (arith, one, two, ap size_field same) in
-    let rest : BeginsBlock w (8 * length (concat cs)) (8 * length (concat cs ++ w ∷ ys)) = begins w ys cs bs (others_of (f ∷ r) cs all) (others_of (g ∷ t) bs all') (same_cut r t (concat cs ++ w ∷ ys) (concat bs) long behind) in record {
+    let rest : BeginsBlock w (8 * length (concat cs)) (8 * length (concat cs ++ w ∷ ys)) = begins w ys cs bs (others_of (f ∷ r) cs all) (others_of (g ∷ t) bs all') (back r t (concat cs ++ w ∷ ys) (concat bs) long behind) in record {
       some = rest.some;
       of_words = rest.of_words;
       within = omega (arith, rest.within, length-append (f ∷ r) (concat cs), length-append ((f ∷ r) ++ concat cs) (w ∷ ys), length-append (concat cs) (w ∷ ys));

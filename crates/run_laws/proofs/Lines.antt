@@ -5,9 +5,10 @@ use Rattle.std.proofs.lemmas.List.Sums.{sum_by-cons}
 use Rattle.perf_base.specs.{declared.{numbers.RingNo.{RingNo}, acts.Act.{Act}}, Scripts.{Scripted}}
 use Rattle.perf_base.specs.declared.acts.Act.TheVariants as act
 use Rattle.stage_spec.specs.{Order.{is_of_cpu, is_of_tool, IsCounted}, Replies.{lines_from}}
-use Rattle.ring_laws.proofs.Reached.{count-both, count-one}
+use Rattle.ring_laws.proofs.Reached.{count-one}
 use Rattle.run_laws.specs.Growing.{AreLooks, is_look, is_cpu_act, does_line, LooksDoNothingLaw, CompleteLooksLaw, NoLineLaw}
 use Rattle.run_laws.specs.Counted.{CountedCpusLaw, CountedLinesLaw, LengthsLaw}
+use Rattle.stage_laws.proofs.Counts.{count-append}
 
 -- looks pass no test that no look passes
 none-pass : (p : Act → Bool) → ((ring : RingNo) (place : ℕ) → p (act.Seen ring place) ≡ false) → (from : ℕ) (before looks : List Act) → AreLooks from before looks
@@ -19,8 +20,8 @@ none-pass p fails from before (act.Seen ring place ∷ looks) h = grind (arith, 
 
 pub looks-do-nothing : LooksDoNothingLaw
 looks-do-nothing from before looks h = (
-  λ cpu. omega (arith, count-both (is_of_cpu cpu) before looks, none-pass (is_of_cpu cpu) (λ ring place. refl) from before looks h),
-  λ tool. omega (arith, count-both (is_of_tool tool) before looks, none-pass (is_of_tool tool) (λ ring place. refl) from before looks h),
+  λ cpu. omega (arith, count-append (is_of_cpu cpu) before looks, none-pass (is_of_cpu cpu) (λ ring place. refl) from before looks h),
+  λ tool. omega (arith, count-append (is_of_tool tool) before looks, none-pass (is_of_tool tool) (λ ring place. refl) from before looks h),
 )
 
 pub complete-looks : CompleteLooksLaw

@@ -23,6 +23,7 @@ use Rattle.script_spec.specs.Forms as form
 use Rattle.line_forms.proofs.Singles.{bytes_eq-true, bytes_eq_self, name_takes}
 use Rattle.line_forms.specs.Leaves as says
 use Rattle.script_print.proofs.{Cutting.{lacks, pieces_at}, Sections.{ring_small}}
+use Rattle.line_forms.proofs.Grammar.{first_is}
 
 pub differ : (a b : List ℕ) → a ≢ b → bytes_eq a b ≡ false
 differ a b ne = grind (arith, bytes_eq-true)
@@ -106,11 +107,8 @@ name_lacks : (name : List ℕ) → IsName name → lacks 61 name ≡ true
 name_lacks [] h = absurd h
 name_lacks (b ∷ bs) h = and_from (not (eqb b 61)) (lacks 61 bs) (byte_lacks b (inl h.0)) (list_all-from_AllPass (λ b. not (eqb b 61)) bs (All-weaker IsNameByte (λ b. not (eqb b 61) ≡ true) byte_lacks bs h.1))
 
-head_of : (x y : List ℕ) (xs ys : List (List ℕ)) → x ∷ xs ≡ y ∷ ys → x ≡ y
-head_of x y xs ys e = cc
-
 pub no_ip : (h : Hit) → IsName h.name → h.name ≢ codes "ip" → (n : ℕ) → hit_text h ≢ ip_text n
-no_ip h is ne n e = grind (arith, append_assoc, pieces_at, name_lacks, head_of)
+no_ip h is ne n e = grind (arith, append_assoc, pieces_at, name_lacks, first_is)
 
 -- ---- a printed line of a processor
 

@@ -59,7 +59,7 @@ ranked_back reason.Weight = refl
 ranked_back reason.Order = refl
 
 -- the ranks are all different
-rank_one : (r q : SReason) → rank r ≡ rank q → r ≡ q
+pub rank_one : (r q : SReason) → rank r ≡ rank q → r ≡ q
 rank_one r q e = sym (ranked_back r) ∙ (ap ranked e ∙ ranked_back q)
 
 -- a line is refused for one reason

@@ -105,20 +105,20 @@ ready_gets hw s cpu e f m sound h =
     (omega (arith, ready-le (one_if (is_of_family e)) s cpu, count_by-is-total (is_of_family e) (reached s cpu), sound.placed.one_reached cpu e)) h
 
 -- work
-greatest-start : (first : ℕ) (numbers : List ℕ) → first ≤ fold max first numbers
+pub greatest-start : (first : ℕ) (numbers : List ℕ) → first ≤ fold max first numbers
 greatest-start first [] = omega arith
 greatest-start first (n ∷ numbers) = omega (arith, le-max_left first n, greatest-start (max first n) numbers)
 
-greatest-at : (first : ℕ) (numbers : List ℕ) (k : ℕ) → slice_index numbers k ≤ fold max first numbers
+pub greatest-at : (first : ℕ) (numbers : List ℕ) (k : ℕ) → slice_index numbers k ≤ fold max first numbers
 greatest-at first [] k = omega arith
 greatest-at first (n ∷ numbers) zero = omega (arith, le-max_right first n, greatest-start (max first n) numbers)
 greatest-at first (n ∷ numbers) (suc k) = greatest-at (max first n) numbers k
 
-unless-le : (b : Bool) (n m : ℕ) → n ≤ m → (if b then 0 else n) ≤ m
+pub unless-le : (b : Bool) (n m : ℕ) → n ≤ m → (if b then 0 else n) ≤ m
 unless-le true n m h = omega arith
 unless-le false n m h = h
 
-counted-le : (w : Work) (a : Attr) (k : Kind) → counted_by w a k ≤ max w.length (greatest w.hits)
+pub counted-le : (w : Work) (a : Attr) (k : Kind) → counted_by w a k ≤ max w.length (greatest w.hits)
 counted-le w a (kind.Hard n) = grind (arith, unless-le, greatest-at, le-max_right)
 counted-le w a kind.ContextSwitches = omega arith
 counted-le w a kind.CpuMigrations = omega arith

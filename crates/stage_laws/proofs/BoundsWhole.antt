@@ -267,7 +267,7 @@ family_at_most l hw declared steps e machine numbers within =
     from_there l hw s [] steps e (at_first l.cpus declared) machine within (first_sound l hw declared machine numbers) (nothing_yet hw s e)
 
 -- in plain numbers
-greatest-least : (m first : ℕ) (numbers : List ℕ) → first ≤ m → All (λ n. n ≤ m) numbers → fold max first numbers ≤ m
+pub greatest-least : (m first : ℕ) (numbers : List ℕ) → first ≤ m → All (λ n. n ≤ m) numbers → fold max first numbers ≤ m
 greatest-least m first [] h all = h
 greatest-least m first (n ∷ numbers) h all =
     greatest-least m (max first n) numbers (max-le h (All-head (λ k. k ≤ m) n numbers all)) (All-tail (λ k. k ≤ m) n numbers all)

@@ -76,7 +76,7 @@ standings-are hw s cpu =
     ∙ map-map (λ j. (j.brief.leader, j.standing)) (summed hw) (judge_passes hw [] (map (filter (is_eligible hw cpu)) (passes s cpu))))
 
 -- the hardware instances that are on are the members that need counters of the groups that are on
-filter-one : (b : Bool) (p q : Instance → Bool) (x : Instance) (xs : List Instance) → p x ≡ b → filter q (filter p xs) ≡ filter (λ y. p y && q y) xs
+pub filter-one : (b : Bool) (p q : Instance → Bool) (x : Instance) (xs : List Instance) → p x ≡ b → filter q (filter p xs) ≡ filter (λ y. p y && q y) xs
     → filter q (filter p (x ∷ xs)) ≡ filter (λ y. p y && q y) (x ∷ xs)
 filter-one true p q x xs e rest =
     ap (λ b. filter q (cond b (x ∷ filter p xs) (filter p xs))) e
@@ -85,7 +85,7 @@ filter-one false p q x xs e rest =
     ap (λ b. filter q (cond b (x ∷ filter p xs) (filter p xs))) e
     ∙ (rest ∙ ap (λ b. cond (b && q x) (x ∷ filter (λ y. p y && q y) xs) (filter (λ y. p y && q y) xs)) (sym e))
 
-filter-both : (p q : Instance → Bool) (xs : List Instance) → filter q (filter p xs) ≡ filter (λ x. p x && q x) xs
+pub filter-both : (p q : Instance → Bool) (xs : List Instance) → filter q (filter p xs) ≡ filter (λ x. p x && q x) xs
 filter-both p q [] = refl
 filter-both p q (x ∷ xs) = filter-one (p x) p q x xs refl (filter-both p q xs)
 

@@ -2,6 +2,7 @@
 use Rattle.std.specs.Prelude.{◌≡◌, ℕ, ◌+◌, ◌≤◌, All, Bool, true, false, ◌||◌, cond, List, [], ◌∷◌, find, is_some, Option, Some, None}
 use Rattle.std.{specs.List.{list_any}, proofs.{Common.{arith, refl, ap, subst}, lemmas.List.Elements.{All-head, All-tail}}}
 use Rattle.stage_laws.proofs.Totals.{total}
+use Rattle.stage_spec.proofs.Present.{find-passes}
 
 -- a number of what is found, and none of nothing
 weight_of : {X : Type 0} → (X → ℕ) → Option X → ℕ
@@ -45,9 +46,6 @@ passes-one test false x o e h = h
 passes : {X : Type 0} (test : X → Bool) (xs : List X) → Holds (λ y. test y ≡ true) (find test xs)
 passes test [] = tt
 passes test (x ∷ xs) = passes-one test (test x) x (find test xs) refl (passes test xs)
-
-pub found_passes : {X : Type 0} (test : X → Bool) (xs : List X) (x : X) → find test xs ≡ Some x → test x ≡ true
-found_passes test xs x e = subst (Holds (λ y. test y ≡ true)) e (passes test xs)
 
 -- where some element passes, one is found
 there-one : {X : Type 0} (b rest : Bool) (x : X) (o : Option X) → (rest ≡ true → is_some o ≡ true) → (b || rest) ≡ true → is_some (cond b (Some x) o) ≡ true

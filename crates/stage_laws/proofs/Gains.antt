@@ -70,7 +70,7 @@ unfolding opened
 opened-weighs f s slot a leader h = placed-weighs f leader (new_original s slot a) s h
 
 -- an original leads at most one group
-leads-le : (e : EventNo) (g : Group) → one_if (leads e) g ≤ group_weight (one_if (is_original e)) g
+pub leads-le : (e : EventNo) (g : Group) → one_if (leads e) g ≤ group_weight (one_if (is_original e)) g
 leads-le e g = omega arith
 
 pub groups_led-le : (e : EventNo) (s : Stage) → groups_led e s ≤ weigh (one_if (is_original e)) s

@@ -22,7 +22,7 @@ hardware_masks hw instances = masks_of (with_masks hw (filter is_hardware instan
 abbrev pub with_kind : Hardware → Kind → List ℕ → List ℕ
 with_kind hw k masks = cond (not (is_software k)) (mask_of hw k ∷ masks) masks
 
-masks-cond : (hw : Hardware) (b : Bool) (i : Instance) (instances : List Instance)
+pub masks-cond : (hw : Hardware) (b : Bool) (i : Instance) (instances : List Instance)
     → masks_of (with_masks hw (cond b (i ∷ instances) instances)) ≡ cond b (mask_of hw i.attr.kind ∷ masks_of (with_masks hw instances)) (masks_of (with_masks hw instances))
 masks-cond hw true i instances = refl
 masks-cond hw false i instances = refl
@@ -87,7 +87,7 @@ other_pmu-itself : (p : Option ℕ) → other_pmu p p ≡ false
 other_pmu-itself None = refl
 other_pmu-itself (Some n) = not_from_true (n == n) (eq-eqb n n refl)
 
-other_pmu-back : (p q : Option ℕ) → other_pmu p q ≡ false → other_pmu q p ≡ false
+pub other_pmu-back : (p q : Option ℕ) → other_pmu p q ≡ false → other_pmu q p ≡ false
 other_pmu-back None None h = refl
 other_pmu-back None (Some m) h = refl
 other_pmu-back (Some n) None h = refl

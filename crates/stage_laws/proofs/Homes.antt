@@ -19,13 +19,11 @@ use Rattle.stage_spec.proofs.Contexts.{At}
 use Rattle.stage_laws.proofs.Totals.{one_if}
 use Rattle.stage_laws.proofs.Weights.{lists_weight, no_groups-weigh, lists-same, lists-le, settle_lists-weighs, turn_lists-weighs, change_lists-weighs, without-weighs, if_stays, if_stays-le}
 use Rattle.stage_laws.proofs.Gains.{copied-weighs, inherited_weight-le}
+use Rattle.stage_spec.proofs.Settled.{place_of-cpu, no_groups-settled}
 
 -- the context of a place
 abbrev pub context_at : ℕ → Context
 context_at n = cond (nat_lt n 8) (context.Processor (record { 0 = n })) (context.Task (record { 0 = n - 8 }))
-
-place_of-cpu : (cpu : CpuNo) → cpu.0 < 8 → place_of (context.Processor cpu) ≡ cpu.0
-place_of-cpu cpu low = ap (λ b. cond b cpu.0 72) (lt-ltb cpu.0 8 low)
 
 pub place_of-at : (n : ℕ) → place_of (context_at n) ≡ n
 place_of-at n = grind (arith, cases_lt, lt-ltb, place_of-cpu, le-ltb)
@@ -124,10 +122,6 @@ StandsIn-own tasks table c i o h = record {
   original = h.original;
   copied = λ k. record { live = (h.copied k).live; task = (h.copied k).task; ring = (h.copied k).ring; mapped = (h.copied k).mapped };
 }
-
-no_groups-settled : (hw : Hardware) (cpu : CpuNo) (before : List Judged) → settle_lists hw cpu before no_groups ≡ no_groups
-unfolding settle_pass
-no_groups-settled hw cpu before = refl
 
 pub settles-home : (tasks : List TaskStatus) (table : ℕ → Attr) (n : ℕ) (hw : Hardware) (cpu : CpuNo) (before : List Judged) (l : Lists) → IsHome tasks table n l
     → IsHome tasks table n (settle_lists hw cpu before l)

@@ -125,11 +125,11 @@ unfolding closed
 closed-none_astray e s none = omega (arith, closed-le (astray s.mapped) e s, none)
 
 -- new events and copies write nowhere
-placed-mapped : (leader : Option EventNo) (i : Instance) (s : Stage) → (placed leader i s).mapped ≡ s.mapped
+pub placed-mapped : (leader : Option EventNo) (i : Instance) (s : Stage) → (placed leader i s).mapped ≡ s.mapped
 placed-mapped None i s = refl
 placed-mapped (Some e) i s = refl
 
-opened-mapped : (s : Stage) (slot : EventNo) (a : Attr) (leader : Option EventNo) → (opened s slot a leader).mapped ≡ s.mapped
+pub opened-mapped : (s : Stage) (slot : EventNo) (a : Attr) (leader : Option EventNo) → (opened s slot a leader).mapped ≡ s.mapped
 unfolding opened
 opened-mapped s slot a leader = placed-mapped leader (new_original s slot a) s
 

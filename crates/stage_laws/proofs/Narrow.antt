@@ -17,11 +17,12 @@ use Rattle.stage_spec.{specs.Limits.{Limits, IsMachine, IsWithin}, proofs.Shape.
 use Rattle.stage_laws.specs.{Sound.{IsSound}, Standings.{briefs, standings}}
 use Rattle.stage_laws.specs.Narrowing.{AreSettled, tool_touches, cpu_touches, unless_no, unless_left, changed, touches, SettleOthersLaw, NarrowLaw}
 use Rattle.stage_laws.proofs.Tasks.{task_numbered, first-clear, rest-clear, task_on-other, kept-AreRunning}
-use Rattle.stage_laws.proofs.{RunningTasks.{settle_all-keeps, cpu-running, tool-keeps, live-used}, Briefs.{by_briefs}}
+use Rattle.stage_laws.proofs.{RunningTasks.{settle_all-keeps, cpu-running, tool-keeps}, Briefs.{by_briefs}}
 use Rattle.stage_laws.proofs.ByStandings.{settled_by_briefs}
 use Rattle.stage_laws.proofs.Others.{ReachesSame, passes-same, task-changed, both-changed, change_task, tasks-apart, settle-others}
 use Rattle.stage_laws.proofs.EachSettled.{IsRoomy, briefs-of_passes, each-settled, only-some, others-reach, all-within, is-there}
 use Rattle.stage_laws.proofs.Untouched.{other-number, command-reaches, close-reaches, open-reaches, period-briefs, map-briefs, output-briefs}
+use Rattle.stage_laws.proofs.OpenHomes.{live-used}
 
 pub settle_others : SettleOthersLaw
 settle_others hw s cpu other sound low high apart = settle-others hw s cpu other sound.shape.contexts sound.running (λ e. apart (sym e))
@@ -110,7 +111,7 @@ narrow-all hw s t touched small size roomy settled same =
     (λ cpu low away. settled_by_briefs hw cpu s t (omega (arith, low, small)) (same cpu low away) (settled cpu low)) in
     grind (arith, narrowed, settle_all-keeps, each-settled, is-there, by_briefs, briefs-of_passes, others-reach)
 
-takes-none : (cs : List CpuNo) → filter (λ c. false) cs ≡ []
+pub takes-none : (cs : List CpuNo) → filter (λ c. false) cs ≡ []
 takes-none [] = refl
 takes-none (c ∷ cs) = takes-none cs
 

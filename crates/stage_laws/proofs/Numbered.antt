@@ -179,7 +179,7 @@ exited-quiet : (cpu : CpuNo) (s : Stage) → IsQuiet s (exited cpu s)
 exited-quiet cpu s = let same : SameNumbers s (exited cpu s) = exited-numbers cpu s in record { ids = same.ids; used = same.used; lighter = λ f k. exited-le f cpu s }
 
 -- a fork
-task_lists-le : (f : Instance → ℕ) (s : Stage) (to : Option TaskNo) → lists_weight f (task_lists s to) ≤ weigh f s
+pub task_lists-le : (f : Instance → ℕ) (s : Stage) (to : Option TaskNo) → lists_weight f (task_lists s to) ≤ weigh f s
 task_lists-le f s None = omega (arith, no_groups-weigh f)
 task_lists-le f s (Some task) = weight_in-le f s (context.Task task)
 
@@ -223,7 +223,7 @@ fork_keeps cpu child s h w =
     }
 
 -- an open
-context_by-place : (n : ℕ) (task : TaskSel) (cpu : CpuSel) → n ≤ 8 → IsTaskSel task → IsCpuSel n cpu → place_of (context_by task cpu) < 72
+pub context_by-place : (n : ℕ) (task : TaskSel) (cpu : CpuSel) → n ≤ 8 → IsTaskSel task → IsCpuSel n cpu → place_of (context_by task cpu) < 72
 context_by-place n (tasks.One task) cpu few h k = omega (arith, h)
 context_by-place n tasks.All (cpus.One cpu) few h k = grind (arith, nat_tests, few, k)
 context_by-place n tasks.All cpus.Any few h k = omega arith

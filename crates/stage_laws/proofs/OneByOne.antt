@@ -9,8 +9,9 @@ use Rattle.stage_spec.{specs.Commands.{is_reached, command_each, with_period}, p
 use Rattle.stage_spec.proofs.{Parts.{all-Each, both-Each}, Inside.{InStage-from_all}}
 use Rattle.stage_laws.specs.Sound.{IsNumbered, has_id}
 use Rattle.stage_laws.specs.OneByOne.{ids_of, AreIdsOf, change_one, change_ones, with_own, IdsLaw, CommandOneByOneLaw, PeriodOneLaw, RingOneLaw}
-use Rattle.stage_laws.proofs.{Images.{map-same}, Counts.{count-cons}, Found.{found_weighs, found_passes}, BoundsReached.{total-le_each}}
+use Rattle.stage_laws.proofs.{Images.{map-same}, Counts.{count-cons}, Found.{found_weighs}, BoundsReached.{total-le_each}}
 use Rattle.stage_laws.proofs.Totals.{total, total-same, total-plus, total-filter, as_number, one_if, count_by-is-total}
+use Rattle.stage_spec.proofs.Present.{find-passes}
 
 -- what an element has for itself is within the sum, and what adds up to no more is the same for each
 pub each-within : {X : Type 0} (f : X → X → ℕ) (xs : List X) → Each (λ x. f x x ≤ total (f x) xs) xs
@@ -154,7 +155,7 @@ unfolding command_each
 commanded_in_turn f events s ids numbered order = changed_in_turn (with_own f) (λ i. refl) (is_reached events) s ids numbered order
 
 -- the ids in order
-eq-turn : (m n : ℕ) → as_number (m == n) ≡ as_number (n == m)
+pub eq-turn : (m n : ℕ) → as_number (m == n) ≡ as_number (n == m)
 eq-turn m n = grind (arith, nat_tests)
 
 pub ids-in_order : IdsLaw
@@ -174,7 +175,7 @@ right-le false c = omega arith
 both_tests : (p q : Instance → Bool) (xs : List Instance) (i : Instance) → find p xs ≡ Some i → q i ≡ true → count_by p xs ≤ 1 → count_by q xs ≤ 1 → Each (λ j. p j ≡ q j) xs
 both_tests p q xs i found named one_p one_q =
     let both : Instance → Bool = λ j. p j && q j in
-    let here : one_if both i ≡ 1 = ap as_number (ap (λ b. b && q i) (found_passes p xs i found) ∙ named) in
+    let here : one_if both i ≡ 1 = ap as_number (ap (λ b. b && q i) (find-passes p xs i found) ∙ named) in
     let there : 1 ≤ total (one_if both) xs = omega (arith, here, found_weighs (one_if both) p xs i found) in
     let first : Each (λ j. one_if both j ≡ one_if p j) xs =
     each-same (one_if both) (one_if p) xs (all-Each (λ j. one_if both j ≤ one_if p j) (λ j. left-le (p j) (q j)) xs) (omega (arith, one_p, there, count_by-is-total p xs)) in

@@ -26,7 +26,7 @@ abbrev pushed : Bool → List Group → Lists → Lists
 pushed true groups l = record l { pinned = l.pinned ++ groups }
 pushed false groups l = record l { flexible = l.flexible ++ groups }
 
-join-pushed : (i : Instance) (groups : List Group) (g : Group) → join_last i (groups ++ g ∷ []) ≡ groups ++ joined i g ∷ []
+pub join-pushed : (i : Instance) (groups : List Group) (g : Group) → join_last i (groups ++ g ∷ []) ≡ groups ++ joined i g ∷ []
 unfolding join_last
 join-pushed i [] g = refl
 join-pushed i (h ∷ []) g = refl
@@ -128,7 +128,7 @@ set-finds p [] k l same = refl
 set-finds p (m ∷ contexts) zero l same = found-beside p (groups_in l) (groups_in m) (flat_map groups_in contexts) (flat_map groups_in contexts) same refl
 set-finds p (m ∷ contexts) (suc k) l same = grind (arith, found-beside, set, set-finds p contexts k l same)
 
-and-false : (b : Bool) → (b && false) ≡ false
+pub and-false : (b : Bool) → (b && false) ≡ false
 and-false true = refl
 and-false false = refl
 

@@ -19,7 +19,7 @@ use Rattle.stage_laws.{specs.Sound.{IsNumbered}, proofs.{Accepted.{IsAccepted}, 
 use Rattle.stage_laws.proofs.Grouped.{same_task, same_cpu, holds_of-some}
 use Rattle.stage_laws.proofs.Totals.{total, total-append, total-le, total-times, get_or-le-total, one_if}
 use Rattle.stage_laws.proofs.Weights.{weigh, lists_weight, group_weight, no_groups-weigh, weigh-is-count}
-use Rattle.stage_laws.proofs.Gains.{leads, added-weighs, join_lists-weigh}
+use Rattle.stage_laws.proofs.Gains.{leads, added-weighs, join_lists-weigh, leads-le}
 use Rattle.stage_laws.proofs.Homes.{of_period, context_at, context_at-place, state_at, StandsIn, IsHome, IsHome-table, no_groups-home}
 use Rattle.stage_laws.proofs.Origins.{IsFamilied}
 
@@ -59,7 +59,7 @@ named-live s (tasks.One other) cpu task h k = grind (arith, not-false)
 named-live s tasks.All (cpus.One cpu) task h k = absurd (false≢true (ap is_task_context h))
 named-live s tasks.All cpus.Any task h k = absurd (false≢true (ap is_task_context h))
 
-live-used : (t : TaskState) → is_live t ≡ true → was_used t ≡ true
+pub live-used : (t : TaskState) → is_live t ≡ true → was_used t ≡ true
 live-used state.Unknown h = absurd (false≢true h)
 live-used state.Live h = refl
 live-used state.Exited h = absurd (false≢true h)
@@ -104,11 +104,8 @@ founds : (s : Stage) (e : EventNo) → IsNumbered s → At (λ n. InLists (IsFou
 founds s e n = At-from_each (InLists (IsFoundAs s e)) (no_groups-In (IsFoundAs s e)) s
     (InStage-from_all (IsFoundAs s e) s (found_only (is_original e) (all_instances s) (n.one_original e)))
 
-led-le : (e : EventNo) (g : Group) → one_if (leads e) g ≤ group_weight (one_if (is_original e)) g
-led-le e g = omega arith
-
 joins-le : (e : EventNo) (l : Lists) → total (one_if (leads e)) (groups_in l) ≤ lists_weight (one_if (is_original e)) l
-joins-le e l = grind (arith, total-append, group_weight, one_if, total-le, leads, led-le)
+joins-le e l = grind (arith, total-append, group_weight, one_if, total-le, leads, leads-le)
 
 joins_one : (n k : ℕ) (slot f : EventNo) → n ≤ 1 → (slot.0 ≡ f.0 → n ≡ 0) → k ≤ 1 → n + k * one_or_none (slot.0 == f.0) ≤ 1
 joins_one n k slot f few none once = grind (arith, eq-eqb, ne_eqb)

@@ -10,6 +10,7 @@ use Rattle.stage_spec.specs.{Forks.{forked}, Exits.{exited}, Switching.{switched
 use Rattle.stage_laws.proofs.Totals.{total-none, one_if}
 use Rattle.stage_laws.proofs.Weights.{weigh, lists_weight, no_groups-weigh, lists-weigh, weigh-is-total, weight_in-le, lists-same, weigh-same, change_each-keeps, settle_all-weighs, switched-weighs, rotated-weighs, if_stays, if_goes, closed-weighs, closed-le, exited-weighs, exited-le}
 use Rattle.stage_laws.proofs.Gains.{groups_joined, opened-weighs, copied-weighs, inherited_weight-le, forked-weighs, forked-le}
+use Rattle.stage_laws.proofs.Numbered.{task_lists-le}
 
 abbrev pub IsFamilied : Stage → Type 0
 IsFamilied s = (e : EventNo) → weigh (one_if (is_original e)) s ≡ 0 → weigh (one_if (is_of_family e)) s ≡ 0
@@ -74,10 +75,6 @@ pub opened-familied : (s : Stage) (slot : EventNo) (a : Attr) (leader : Option E
 opened-familied s slot a leader place h e none = grind (arith, groups_joined, one_if, as_original, weigh, opened-weighs)
 
 -- a fork brings copies of what is there
-parent-le : (f : Instance → ℕ) (s : Stage) (to : Option TaskNo) → lists_weight f (task_lists s to) ≤ weigh f s
-parent-le f s None = omega (arith, no_groups-weigh f)
-parent-le f s (Some task) = weight_in-le f s (context.Task task)
-
 pub forked-familied : (cpu : CpuNo) (child : TaskNo) (s : Stage) → place_of (context.Task child) < length s.contexts → lists_of s (context.Task child) ≡ no_groups
     → IsFamilied s → IsFamilied (forked cpu child s)
 forked-familied cpu child s place empty h e none =
@@ -89,5 +86,5 @@ forked-familied cpu child s place empty h e none =
       forked-le (one_if (is_of_family e)) cpu child s,
       copied-weighs (one_if (is_of_family e)) (one_if (is_of_family e)) s (λ id i. refl) parent,
       inherited_weight-le (one_if (is_of_family e)) parent,
-      parent-le (one_if (is_of_family e)) s (task_on s cpu),
+      task_lists-le (one_if (is_of_family e)) s (task_on s cpu),
     )

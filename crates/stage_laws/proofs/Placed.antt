@@ -16,11 +16,12 @@ use Rattle.stage_spec.{specs.Limits.{Limits, IsMachine, IsWithin, HasShape}, pro
 use Rattle.stage_spec.proofs.{Parts.{All-from_Each, Each-from_All, both-Each, all-Each}, Contexts.{At, At-from_each, each-from_At}}
 use Rattle.stage_spec.proofs.Inside.{weaker-in, both-in, members-in, InLists-from_members, all_instances-in, InStage-from_all}
 use Rattle.stage_laws.{specs.Sound.{IsNumbered, IsCopyOf, IsPlaced, IsSound}, proofs.Counts.{count-cons}}
-use Rattle.stage_laws.proofs.{Leaders.{none_counted, found_only, find-first, find-later}, Found.{found_has, found_passes}}
+use Rattle.stage_laws.proofs.{Leaders.{none_counted, found_only, find-first, find-later}, Found.{found_has}}
 use Rattle.stage_laws.proofs.Totals.{as_number, total, total-nil, total-cons, total-flat_map, total-by_All, total-replicate, count_by-is-total, one_if}
 use Rattle.stage_laws.proofs.Weights.{weigh, lists_weight, group_weight, no_groups-weigh, members-weigh, lists-weigh, weigh-is-count}
 use Rattle.stage_laws.proofs.Homes.{context_at, place_of-at, in_context, of_period, counts_all, stands_with_task, IsOfLive, StandsIn, IsHome, no_groups-home}
 use Rattle.stage_laws.proofs.{Origins.{IsFamilied}, Housed.{Housed, housed_step}}
+use Rattle.stage_spec.proofs.Present.{find-passes}
 
 -- what a place gives of an instance wherever it is
 pub record IsTabled (table : ℕ → Attr) (i : Instance) : Type 0 where
@@ -38,7 +39,7 @@ tabled table s h =
 
 -- a search finds what passes and has what each has
 find-Each : {X : Type 0} (P : X → Type 0) (p : X → Bool) (xs : List X) (x : X) → Each P xs → find p xs ≡ Some x → P x × (p x ≡ true)
-find-Each P p xs x h e = (found_has P p xs x (All-from_Each P xs h) e, found_passes p xs x e)
+find-Each P p xs x h e = (found_has P p xs x (All-from_Each P xs h) e, find-passes p xs x e)
 
 found_or_none : {X : Type 0} (o : Option X) → (o ≡ None → ⊥) → (x : X) × (o ≡ Some x)
 found_or_none None h = absurd (h refl)
@@ -249,7 +250,7 @@ pub placed_step : (l : Limits) (hw : Hardware) (s : Stage) (x : Step) → IsMach
 placed_step l hw s x machine within sound shape = grind (arith, placed-from_housed, housed_step, housed-from_placed)
 
 -- at first there is none
-nowhere : (count n : ℕ) → slice_index_or (replicate count no_groups) n no_groups ≡ no_groups
+pub nowhere : (count n : ℕ) → slice_index_or (replicate count no_groups) n no_groups ≡ no_groups
 nowhere zero n = refl
 nowhere (suc count) zero = refl
 nowhere (suc count) (suc n) = nowhere count n

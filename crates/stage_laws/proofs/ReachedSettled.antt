@@ -8,11 +8,9 @@ use Rattle.stage_spec.specs.{Hardware.{Hardware}, Stage.{Stage, lists_of, no_gro
 use Rattle.stage_spec.specs.{Settle.{settle, settle_lists, settle_task, own_verdicts, IsSettled}, History.{Step, stage_step, stage_after}}
 use Rattle.stage_spec.{specs.Limits.{Limits, IsMachine, IsWithin}, proofs.Settled.{change_context-none, no_groups-settled}}
 use Rattle.stage_laws.{specs.{Sound.{IsSound}, Narrowing.{AreSettled, ReachedSettledLaw}}, proofs.{Sound.{first_sound, step_sound}, Narrow.{narrows}}}
+use Rattle.stage_laws.proofs.Placed.{nowhere}
 
 -- a stage without groups is settled
-replicate-empty : (n k : ℕ) → slice_index_or (replicate n no_groups) k no_groups ≡ no_groups
-replicate-empty n k = grind (arith, cases_lt, get_or-replicate, get_or_past, length-replicate)
-
 abbrev IsEmpty : Stage → Type 0
 IsEmpty s = (c : Context) → lists_of s c ≡ no_groups
 
@@ -31,7 +29,7 @@ empty-settled hw cpu s h =
 
 first-empty : (cpus : ℕ) (declared : List TaskNo) → IsEmpty (first_stage cpus declared)
 unfolding first_stage
-first-empty cpus declared c = replicate-empty 72 (place_of c)
+first-empty cpus declared c = nowhere 72 (place_of c)
 
 -- and so on, step by step
 after-settled : (l : Limits) (hw : Hardware) (s : Stage) (steps : List Step) → IsMachine l hw → IsSound hw s → AreSettled hw s → All (IsWithin l) steps → AreSettled hw (stage_after hw s steps)

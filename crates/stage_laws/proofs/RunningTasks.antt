@@ -17,6 +17,7 @@ use Rattle.stage_spec.{specs.Limits.{Limits, IsWithin}, proofs.ByContexts.{KeptB
 use Rattle.stage_spec.specs.declared.instance.TaskState.TheVariants as state
 use Rattle.stage_laws.specs.Sound.{AreRunning}
 use Rattle.stage_laws.proofs.Tasks.{some-same, KeepsTasks, kept-AreRunning, given-AreRunning, status-AreRunning, first-clear, rest-clear, free-task, state-kept, status_of-other, task_on-same, task_on-other}
+use Rattle.stage_laws.proofs.OpenHomes.{live-used}
 
 abbrev no_task : Option TaskNo
 no_task = None
@@ -82,11 +83,6 @@ unfolding switched
 switched-running s cpu to low h free = one-running (is_running (task_on s cpu) to) s (put_on cpu to s) h (put_on-running s cpu to low h free)
 
 -- a fork makes a task live that there never was
-pub live-used : (status : TaskState) → is_live status ≡ true → was_used status ≡ true
-live-used state.Unknown h = absurd (false≢true h)
-live-used state.Live h = refl
-live-used state.Exited h = refl
-
 forked-running : (s : Stage) (cpu : CpuNo) (child : TaskNo) → AreRunning s → fork_refusal s cpu child ≡ None → AreRunning (forked cpu child s)
 unfolding forked
 forked-running s cpu child h free = grind (arith, first-clear, rest-clear, false≢true, live-used, status_of-other)

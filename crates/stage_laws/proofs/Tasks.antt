@@ -7,6 +7,7 @@ use Rattle.perf_base.specs.declared.{numbers.{CpuNo.{CpuNo}, TaskNo.{TaskNo}}, r
 use Rattle.stage_spec.specs.{declared.instance.TaskStatus.{TaskStatus}, Numbers.{numbers_below}, Refusals.{first_of, holds_of}}
 use Rattle.stage_spec.specs.Stage.{Stage, status_of, is_live, task_on, is_on_cpu, cpu_of, is_task, set_status, set_running, unknown_task}
 use Rattle.stage_laws.specs.Sound.{AreRunning}
+use Rattle.stage_spec.proofs.Present.{find-passes}
 
 -- where no reason holds, the first doesn't, nor any after it
 pub first-clear : (r : Reason) (b : Bool) (rest : List (Reason × Bool)) → first_of ((r, b) ∷ rest) ≡ None → b ≡ false
@@ -41,13 +42,6 @@ pub some-same : {X : Type 0} (x y : X) → Some x ≡ Some y → x ≡ y
 some-same x y h = ap (λ o. unwrap_or o x) h
 
 -- what a search finds passes the test
-pub found-passes : {X : Type 0} (p : X → Bool) (xs : List X) (x : X) → find p xs ≡ Some x → p x ≡ true
-found-passes p [] x h = absurd (cc)
-found-passes p (y ∷ xs) x h = elim (cases_Bool (p y)) [
-  | inl e ↦ grind (arith, nat_tests, e, some-same)
-  | inr e ↦ let there : find p (y ∷ xs) ≡ find p xs = rw e refl in found-passes p xs x (sym there ∙ h)
-]
-
 or-none : {X : Type 0} (a b : Option X) → option_or a b ≡ None → (a ≡ None) × (b ≡ None)
 or-none None b h = (refl, h)
 or-none (Some x) b h = absurd (cc)
@@ -93,7 +87,7 @@ free-task s cpu other task sound free on =
     let test : is_on_cpu s task other ≡ true = is_task-true (task_on s other) task on in
     elim (some_or_none (cpu_of s task)) [
       | inl none ↦ absurd (misses-none (is_on_cpu s task) (length s.running) other.0 low test none)
-      | inr found ↦ grind (arith, nat_tests, found-passes, is_task-some)
+      | inr found ↦ grind (arith, nat_tests, find-passes, is_task-some)
     ]
 
 -- a change that leaves what runs and where tasks stand

@@ -18,10 +18,10 @@ use Rattle.stage_laws.proofs.{Others.{lists_of-apart, cpus-apart, cpu-task_apart
 use Rattle.stage_laws.proofs.RunningTasks.{keeps-then, settle_all-keeps, rotated-keeps}
 
 -- the first that passes goes last
-goes_last-here : (test : Group → Bool) (g : Group) (groups : List Group) → test g ≡ true → first_goes_last test (g ∷ groups) ≡ groups ++ g ∷ []
+pub goes_last-here : (test : Group → Bool) (g : Group) (groups : List Group) → test g ≡ true → first_goes_last test (g ∷ groups) ≡ groups ++ g ∷ []
 goes_last-here test g groups e = ap (λ b. either b (groups ++ g ∷ []) (g ∷ first_goes_last test groups)) e
 
-goes_last-away : (test : Group → Bool) (g : Group) (groups : List Group) → test g ≡ false → first_goes_last test (g ∷ groups) ≡ g ∷ first_goes_last test groups
+pub goes_last-away : (test : Group → Bool) (g : Group) (groups : List Group) → test g ≡ false → first_goes_last test (g ∷ groups) ≡ g ∷ first_goes_last test groups
 goes_last-away test g groups e = ap (λ b. either b (groups ++ g ∷ []) (g ∷ first_goes_last test groups)) e
 
 passing-rotate : (test : Group → Bool) (groups : List Group) → filter test (first_goes_last test groups) ≡ drop 1 (filter test groups) ++ take 1 (filter test groups)

@@ -162,7 +162,7 @@ unborn hw s (x ∷ steps) id h low =
     let count : (if reset then 0 else (share hw s x id).count) ≡ 0 = nothing reset (share hw s x id).count (ap (λ a. a.count) now) in
     grind (arith, nat_tests, same_sums, reset, next, count, later, now)
 
-reset-none : (b : Bool) → after_reset b no_sums ≡ no_sums
+pub reset-none : (b : Bool) → after_reset b no_sums ≡ no_sums
 reset-none true = refl
 reset-none false = refl
 

@@ -199,7 +199,7 @@ pub no_fault : (hw : Hardware) (s : Stage) (slot : EventNo) (a : Attr) (leader :
 unfolding open_refusal
 no_fault hw s slot a leader e = search (either_reason)
 
-used_refuses : (hw : Hardware) (s : Stage) (slot : EventNo) (a : Attr) (leader : Option EventNo) → open_refusal hw s slot a leader ≡ None → is_used s slot ≡ false
+pub used_refuses : (hw : Hardware) (s : Stage) (slot : EventNo) (a : Attr) (leader : Option EventNo) → open_refusal hw s slot a leader ≡ None → is_used s slot ≡ false
 used_refuses hw s slot a leader e = first_used (is_used s slot) (drop 1 (open_faults hw s slot a leader)) (no_fault hw s slot a leader e)
 
 -- the instances that a step makes: originals in slots that were not used, and copies, with ids from the next one on

@@ -36,7 +36,7 @@ all-below : (P : ℕ → Type 0) (n : ℕ) → ((k : ℕ) → P k) → All P (nu
 all-below P zero h = All-nil P
 all-below P (suc n) h = All-append P (numbers_below n) (n ∷ []) (all-below P n h) (All-cons P n [] (h n) (All-nil P))
 
-length-below : (n : ℕ) → length (numbers_below n) ≡ n
+pub length-below : (n : ℕ) → length (numbers_below n) ≡ n
 length-below zero = refl
 length-below (suc n) = omega (arith, length-below n, length-append (numbers_below n) (n ∷ []))
 

@@ -15,11 +15,9 @@ use Rattle.world_spec.specs.{Kept.{post_at, leads, IsKept}, Listings.{pass_leade
 use Rattle.world_spec.{specs.{StageOf.{group_at, stage_of}, Value.{World, no_leaders, leaders_of, entry_at, times}}, proofs.Listings.{passes-are}}
 use Rattle.world_spec.proofs.Standing.{left-untouched}
 use Rattle.task_moves.{specs.Turning.{turn_keys, turn_in, turn_of_task, turned_world}, proofs.Turning.{turn-stage, flexible-once, waits-same}}
+use Rattle.stage_spec.proofs.Settled.{place_of-cpu}
 
 -- a processor's place, and a task's
-own-place : (cpu : CpuNo) → cpu.0 < 8 → place_of (context.Processor cpu) ≡ cpu.0
-own-place cpu low = ap (λ b. if b then cpu.0 else 72) (let below : nat_lt cpu.0 8 ≡ true = grind (arith, nat_tests, low) in below)
-
 pub task-low : (hw : Hardware) (w : World) (cpu : CpuNo) (task : TaskNo) → IsKept hw w → task_on (stage_of w) cpu ≡ Some task → task.0 < 64
 task-low hw w cpu task h on = elim (cases_lt task.0 64) [
   | inl low ↦ low
@@ -40,7 +38,7 @@ task-turned : (hw : Hardware) (w : World) (cpu : CpuNo) (o : Option TaskNo) → 
 task-turned hw w cpu None h is judged low on = refl
 task-turned hw w cpu (Some task) h is judged low on =
     let small : task.0 < 64 = task-low hw w cpu task h on in
-    let apart : place_of (context.Task task) ≢ place_of (context.Processor cpu) = λ e. omega (arith, e, own-place cpu low, low) in
+    let apart : place_of (context.Task task) ≢ place_of (context.Processor cpu) = λ e. omega (arith, e, place_of-cpu cpu low, low) in
     let same : leaders_of (turn_in cpu (context.Processor cpu) w) (context.Task task) ≡ leaders_of w (context.Task task) =
     get_or-set_other w.contexts (place_of (context.Processor cpu)) (place_of (context.Task task)) (turn_keys w cpu (leaders_of w (context.Processor cpu))) no_leaders apart in
     turn-stage hw cpu (verdicts hw (stage_of w) cpu) (turn_in cpu (context.Processor cpu) w) (context.Task task) is
@@ -53,7 +51,7 @@ is-rotated hw w cpu h is judged low =
     task-turned hw w cpu (task_on (stage_of w) cpu) h is judged low refl
     ∙ ap (turn_task hw cpu (verdicts hw (stage_of w) cpu) (task_on (stage_of w) cpu))
     (turn-stage hw cpu (verdicts hw (stage_of w) cpu) w (context.Processor cpu) is (flexible-once hw w (context.Processor cpu) h)
-    (waits-same hw w cpu (context.Processor cpu) h is judged (omega (arith, own-place cpu low, low)) (is-own cpu)))
+    (waits-same hw w cpu (context.Processor cpu) h is judged (omega (arith, place_of-cpu cpu low, low)) (is-own cpu)))
 
 -- what is turned, and what is still: settling leaves the flexible groups
 tick-flexible : (hw : Hardware) (cpu : CpuNo) (c : Context) (s : Stage) → flexible_of (ticked hw cpu s) c ≡ flexible_of (rotated hw cpu s) c
@@ -67,7 +65,7 @@ pub stays : (hw : Hardware) (cpu : CpuNo) (c : Context) (s t : Stage) → t ≡ 
 stays hw cpu c s t is low has waiting = ap (λ x. flexible_of x c) is ∙ (sym (tick-flexible hw cpu c s) ∙ (tick_turns hw cpu c s low has).1 waiting)
 
 -- the contexts of another processor are as they were
-turned-elsewhere : (w : World) (cpu : CpuNo) (c d : Context) → place_of d ≢ place_of c → leaders_of (turn_in cpu c w) d ≡ leaders_of w d
+pub turned-elsewhere : (w : World) (cpu : CpuNo) (c d : Context) → place_of d ≢ place_of c → leaders_of (turn_in cpu c w) d ≡ leaders_of w d
 turned-elsewhere w cpu c d apart = get_or-set_other w.contexts (place_of c) (place_of d) (turn_keys w cpu (leaders_of w c)) no_leaders apart
 
 both-elsewhere : (w : World) (cpu : CpuNo) (o : Option TaskNo) (d : Context) → place_of d ≢ place_of (context.Processor cpu) → ((task : TaskNo) → o ≡ Some task → place_of d ≢ place_of (context.Task task))
@@ -79,7 +77,7 @@ leaders-elsewhere : (hw : Hardware) (w : World) (cpu other : CpuNo) (o : Option 
     → task_leaders (turned_world cpu w) o ≡ task_leaders w o
 leaders-elsewhere hw w cpu other None h low small apart on = refl
 leaders-elsewhere hw w cpu other (Some task) h low small apart on =
-    both-elsewhere w cpu (task_on (stage_of w) cpu) (context.Task task) (λ e. omega (arith, e, own-place cpu low, low))
+    both-elsewhere w cpu (task_on (stage_of w) cpu) (context.Task task) (λ e. omega (arith, e, place_of-cpu cpu low, low))
     (λ t runs e. apart (h.running.once other cpu task on (runs ∙ ap (λ n. Some (record { 0 = n })) (let same : t.0 ≡ task.0 = omega (arith, e) in same))))
 
 same-task : (w : World) (cpu other : CpuNo) (o : Option TaskNo) → task_on (stage_of (turn_of_task cpu o (turn_in cpu (context.Processor cpu) w))) other ≡ task_on (stage_of w) other
@@ -90,8 +88,8 @@ passes-elsewhere : (hw : Hardware) (w : World) (cpu other : CpuNo) → IsKept hw
 passes-elsewhere hw w cpu other h low small apart =
     let x : World = turned_world cpu w in
     let own : leaders_of x (context.Processor other) ≡ leaders_of w (context.Processor other) =
-    both-elsewhere w cpu (task_on (stage_of w) cpu) (context.Processor other) (λ e. apart (omega (arith, e, own-place cpu low, own-place other small)))
-    (λ t runs e. omega (arith, e, own-place other small, small)) in
+    both-elsewhere w cpu (task_on (stage_of w) cpu) (context.Processor other) (λ e. apart (omega (arith, e, place_of-cpu cpu low, place_of-cpu other small)))
+    (λ t runs e. omega (arith, e, place_of-cpu other small, small)) in
     let task : task_leaders x (task_on (stage_of x) other) ≡ task_leaders w (task_on (stage_of w) other) =
     ap (task_leaders x) (same-task w cpu other (task_on (stage_of w) cpu)) ∙ leaders-elsewhere hw w cpu other (task_on (stage_of w) other) h low small apart refl in
     λ i. (own i).pinned ∷ (task i).pinned ∷ (own i).flexible ∷ (task i).flexible ∷ []

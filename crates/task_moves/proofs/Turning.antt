@@ -12,14 +12,11 @@ use Rattle.world_spec.specs.StageOf.{group_at, lists_at, stage_of}
 use Rattle.world_spec.specs.Value.{World, Leaders, no_leaders, leaders_of, entry_at, standing_at, is_key, times}
 use Rattle.world_spec.proofs.Keys.{is_key-same, is_key-other, times-cons, once-true, all_but-cons, all_but-none}
 use Rattle.task_moves.specs.Turning.{waits_there, turning, last_if, turn_keys, turn_in}
+use Rattle.world_spec.proofs.Copying.{at-most-once}
+use Rattle.world_spec.proofs.Coming.{number_true}
+use Rattle.stage_laws.proofs.Turns.{goes_last-here, goes_last-away}
 
 -- The first group of a list that passes a test goes last, by its leader.
-goes-here : (test : Group → Bool) (g : Group) (groups : List Group) → test g ≡ true → first_goes_last test (g ∷ groups) ≡ groups ++ g ∷ []
-goes-here test g groups h = ap {B = List Group} (λ b. elim b as (λ x. List Group) [ true ↦ groups ++ g ∷ [] | false ↦ g ∷ first_goes_last test groups ]) h
-
-goes-away : (test : Group → Bool) (g : Group) (groups : List Group) → test g ≡ false → first_goes_last test (g ∷ groups) ≡ g ∷ first_goes_last test groups
-goes-away test g groups h = ap {B = List Group} (λ b. elim b as (λ x. List Group) [ true ↦ groups ++ g ∷ [] | false ↦ g ∷ first_goes_last test groups ]) h
-
 abbrev number-in : Option Key → ℕ
 number-in None = 0
 number-in (Some k) = k.0
@@ -36,12 +33,12 @@ found-there p (q ∷ keys) k h = elim (cases_Bool (p q)) [
 
 later-by : (f : Key → Group) (test : Group → Bool) (q : Key) (keys : List Key) (o : Option Key) → ((j : Key) → times j (q ∷ keys) ≤ 1) → find (λ k. test (f k)) keys ≡ o → test (f q) ≡ false
     → map f (last_if o keys) ≡ first_goes_last test (map f keys) → map f (last_if o (q ∷ keys)) ≡ first_goes_last test (map f (q ∷ keys))
-later-by f test q keys None once found off rest = ap (λ gs. f q ∷ gs) rest ∙ sym (goes-away test (f q) (map f keys) off)
+later-by f test q keys None once found off rest = ap (λ gs. f q ∷ gs) rest ∙ sym (goes_last-away test (f q) (map f keys) off)
 later-by f test q keys (Some k) once found off rest =
     let there : 1 ≤ times k keys = found-there (λ j. test (f j)) keys k found in
     let apart : q.0 ≡ k.0 → ⊥ = λ e. omega (arith, once k, there, times-cons k q keys, once-true (is_key k q) (is_key-same k q e)) in
     let but : all_but k (q ∷ keys) ≡ q ∷ all_but k keys = all_but-cons k q keys false (is_key-other k q apart) in
-    ap (λ ks. map f (ks ++ k ∷ [])) but ∙ (ap (λ gs. f q ∷ gs) rest ∙ sym (goes-away test (f q) (map f keys) off))
+    ap (λ ks. map f (ks ++ k ∷ [])) but ∙ (ap (λ gs. f q ∷ gs) rest ∙ sym (goes_last-away test (f q) (map f keys) off))
 
 last-first : (f : Key → Group) (test : Group → Bool) (keys : List Key) (o : Option Key) → ((q : Key) → times q keys ≤ 1) → find (λ k. test (f k)) keys ≡ o
     → map f (last_if o keys) ≡ first_goes_last test (map f keys)
@@ -53,7 +50,7 @@ last-first f test (q ∷ keys) o once h = elim (cases_Bool (test (f q))) [
       let none : times q keys ≡ 0 = omega (arith, once q, times-cons q q keys, once-true (is_key q q) (is_key-same q q refl)) in
       let own : all_but q (q ∷ keys) ≡ keys = all_but-cons q q keys true (is_key-same q q refl) ∙ all_but-none q keys none in
       ap (λ x. map f (last_if x (q ∷ keys))) is
-      ∙ (ap (λ ks. map f (ks ++ q ∷ [])) own ∙ (map-append f keys (q ∷ []) ∙ sym (goes-here test (f q) (map f keys) on)))
+      ∙ (ap (λ ks. map f (ks ++ q ∷ [])) own ∙ (map-append f keys (q ∷ []) ∙ sym (goes_last-here test (f q) (map f keys) on)))
   | inr off ↦
       let found : find (λ k. test (f k)) keys ≡ o = sym (find-later (λ k. test (f k)) q keys off) ∙ h in
       let few : (j : Key) → times j keys ≤ 1 = λ j. omega (arith, once j, times-cons j q keys) in
@@ -105,17 +102,10 @@ pub flexible-there : (hw : Hardware) (w : World) (c : Context) (q : Key) → IsK
 flexible-there hw w c q h some =
     flexible-parts (leads (post_at w) q) (place_of (entry_at w q).context == place_of c) (entry_at w q).pinned (omega (arith, some, h.linked.flexible q (place_of c)))
 
-at-most-one : (b : Bool) → once_if b ≤ 1
-at-most-one true = omega arith
-at-most-one false = omega arith
-
 pub flexible-once : (hw : Hardware) (w : World) (c : Context) → IsKept hw w → (q : Key) → times q (leaders_of w c).flexible ≤ 1
-flexible-once hw w c h q = omega (arith, h.linked.flexible q (place_of c), at-most-one (leads_in (post_at w) (place_of c) false q))
+flexible-once hw w c h q = omega (arith, h.linked.flexible q (place_of c), at-most-once (leads_in (post_at w) (place_of c) false q))
 
 -- contexts go by their places
-pub same-number : (m n : ℕ) → (m == n) ≡ true → m ≡ n
-same-number m n h = grind (arith, nat_tests, h)
-
 own-place : (n : ℕ) (b : Bool) → nat_lt n 8 ≡ b → (if nat_lt n 8 then n else 72) < 72 → (n < 8) × ((if nat_lt n 8 then n else 72) ≡ n)
 own-place n true h low = (grind (arith, nat_tests, h), ap (λ b. if b then n else 72) h)
 own-place n false h low = absurd (omega (arith, low, ap (λ b. if b then n else 72) h))
@@ -131,7 +121,7 @@ pub waits-same : (hw : Hardware) (w : World) (cpu : CpuNo) (c : Context) → IsK
     → (q : Key) → 1 ≤ times q (leaders_of w c).flexible → waits hw cpu (verdicts hw (stage_of w) cpu) (group_at w q) ≡ waits_there w cpu q
 waits-same hw w cpu c h is judged low has q some =
     let there : (leads (post_at w) q ≡ true) × (place_of (entry_at w q).context == place_of c ≡ true) × ((entry_at w q).pinned ≡ false) = flexible-there hw w c q h some in
-    let at : (entry_at w q).context ≡ c = one-context (entry_at w q).context c low (same-number (place_of (entry_at w q).context) (place_of c) there.1) in
+    let at : (entry_at w q).context ≡ c = one-context (entry_at w q).context c low (number_true (place_of (entry_at w q).context) (place_of c) there.1) in
     let stands : standing_at w q ≡ standing_of hw (stage_of w) cpu (group_at w q) = judged.standings q there.0 (ap (has_context (stage_of w) cpu) at ∙ has) in
     λ i. is_eligible (sym is i) cpu (group_at w q) && not (stands_on (sym stands i))
 

@@ -217,7 +217,7 @@ nothing-after : (cpu : CpuNo) (line : CpuLine) (accounts : List RingAccount) →
 nothing-after cpu line [] = refl
 nothing-after cpu line (a ∷ accounts) = λ i. a ∷ nothing-after cpu line accounts i
 
-nothing-lost : (cpu : CpuNo) (line : CpuLine) (accounts : List RingAccount) → flat_map (losses_on (CpuStep cpu line) []) accounts ≡ []
+pub nothing-lost : (cpu : CpuNo) (line : CpuLine) (accounts : List RingAccount) → flat_map (losses_on (CpuStep cpu line) []) accounts ≡ []
 nothing-lost cpu line [] = refl
 nothing-lost cpu line (a ∷ accounts) = nothing-lost cpu line accounts
 

@@ -10,8 +10,10 @@ use Rattle.world_spec.specs.{Value.{World, no_family, is_live, instance_at, acco
 use Rattle.world_spec.specs.{Metering.{work_given}, Rescheduled.{IsJudged}, Shares.{work_shares, soft_hits, soft_shares, one_hit, HaveShares}}
 use Rattle.world_spec.{specs.Ways.{is_ready_at, is_on_at}, proofs.Accounts.{IsSum, counts_are_sums, times_are_sums, family-once}}
 use Rattle.world_spec.proofs.{Along.{on-share, share-is}, Folding.{run_times_are_sums}}
-use Rattle.world_spec.proofs.Metering.{counted-most, where-most, off-first, none-unready, given-most, one-given, family-key, plus-same}
+use Rattle.world_spec.proofs.Metering.{where-most, none-unready, given-most, one-given, family-key, plus-same}
 use Rattle.world_spec.proofs.{Moving.{leads-parts}, Reaching.{one-reached}}
+use Rattle.stage_laws.proofs.BoundsStep.{counted-le}
+use Rattle.world_spec.proofs.ComingLinks.{none_of_two}
 
 module _ (w new : World) (cpu : CpuNo) (given : ℕ → Sums) (most : Sums) (h : IsKept w.hardware w) (shared : HaveShares w new given)
     (families : new.families ≡ w.families) (folded : new.folded ≡ w.folded)
@@ -82,7 +84,7 @@ module _ (w : World) (cpu : CpuNo) (work : Work) (h : IsKept w.hardware w) (judg
   work-none : (k : Key) → is_live w k ≡ true → is_ready_at w cpu k ≡ false → work_shares w cpu work (instance_at w k).id ≡ no_sums
   work-none k live off =
       let g : work_given w cpu work k ≡ no_sums = none-unready w cpu work k off in
-      let count : (if is_on_at w cpu k then work_hits work (instance_at w k) else 0) ≡ 0 = ap {B = ℕ} (λ b. if b then work_hits work (instance_at w k) else 0) (off-first (is_ready_at w cpu k) _ off) in
+      let count : (if is_on_at w cpu k then work_hits work (instance_at w k) else 0) ≡ 0 = ap {B = ℕ} (λ b. if b then work_hits work (instance_at w k) else 0) (none_of_two (is_ready_at w cpu k) _ off) in
       share-is w cpu work k h judged live ∙ (λ i. record (g i) { count = count i })
 
   work-few : (k : Key) → is_live w k ≡ true → AreAtMost (work_shares w cpu work (instance_at w k).id) (most_of_line (cpu_line.Work work))
@@ -91,7 +93,7 @@ module _ (w : World) (cpu : CpuNo) (work : Work) (h : IsKept w.hardware w) (judg
       let is = share-is w cpu work k h judged live in
       let i : Instance = instance_at w k in
       record {
-        count = omega (arith, ap (λ s. s.count) is, where-most (is_on_at w cpu k) (work_hits work i) (max work.length (greatest work.hits)) (counted-most work i.attr i.attr.kind));
+        count = omega (arith, ap (λ s. s.count) is, where-most (is_on_at w cpu k) (work_hits work i) (max work.length (greatest work.hits)) (counted-le work i.attr i.attr.kind));
         enabled = omega (arith, ap (λ s. s.enabled) is, m.enabled);
         running = omega (arith, ap (λ s. s.running) is, m.running);
       }
@@ -112,7 +114,7 @@ module _ (w : World) (cpu : CpuNo) (occurring : Kind) (h : IsKept w.hardware w) 
   soft-none : (k : Key) → is_live w k ≡ true → is_ready_at w cpu k ≡ false → soft_shares w cpu occurring (instance_at w k).id ≡ no_sums
   soft-none k live off =
       let count : (soft_shares w cpu occurring (instance_at w k).id).count ≡ 0 =
-      on-share w cpu h judged (soft_hits occurring) k live ∙ ap {B = ℕ} (λ b. if b then soft_hits occurring (instance_at w k) else 0) (off-first (is_ready_at w cpu k) _ off) in
+      on-share w cpu h judged (soft_hits occurring) k live ∙ ap {B = ℕ} (λ b. if b then soft_hits occurring (instance_at w k) else 0) (none_of_two (is_ready_at w cpu k) _ off) in
       λ i. record no_sums { count = count i }
 
   soft-few : (k : Key) → is_live w k ≡ true → AreAtMost (soft_shares w cpu occurring (instance_at w k).id) one_hit

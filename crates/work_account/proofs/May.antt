@@ -9,12 +9,13 @@ use Rattle.stage_laws.{specs.{Bounds.{most_of_line}, Narrowing.{has_context}}, p
 use Rattle.world_spec.specs.{Value.{World, no_family, is_live, entry_at, instance_at, account_at, times}, StageOf.{stage_of}}
 use Rattle.world_spec.specs.{Kept.{keys_of, plus_keys, family_sums, IsKept}, Metering.{IsWorked, work_given, is_metered, goes_along}}
 use Rattle.world_spec.specs.{Shares.{HaveRoom, soft_hits, one_hit}, Ways.{is_ready_at, is_on_at}, Working.{is_on, keys_by_pass}}
-use Rattle.world_spec.proofs.{Accounts.{IsSum, counts_are_sums}, Along.{keys-live, reached-keys}, Keys.{times-cons, once-false}}
-use Rattle.world_spec.proofs.{Metering.{counted-most, none-unready, family-key}, Moving.{leads-parts}, Reaching.{one-reached}}
+use Rattle.world_spec.proofs.{Accounts.{IsSum, counts_are_sums}, Along.{keys-live, reached-keys, chosen-some, chosen-passes}, Keys.{times-cons, once-false}}
+use Rattle.world_spec.proofs.{Metering.{none-unready, family-key}, Moving.{leads-parts}, Reaching.{one-reached}}
 use Rattle.work_account.specs.declared.{happening.Happening.{Happening}, overflowing.Hit.{Hit}}
 use Rattle.work_account.specs.Visits.{occurs, samples, is_hit_by, takes, hit_at, hits_among, is_of, MayHit, MayHitAll}
-use Rattle.work_account.proofs.{Growing.{soft-small}, Reached.{is_in, one-each, stands-first, chosen-some, chosen-passes}}
+use Rattle.work_account.proofs.{Growing.{soft-small}, Reached.{is_in, one-each, stands-first}}
 use Rattle.work_account.specs.declared.happening.Happening.TheVariants as happening
+use Rattle.stage_laws.proofs.BoundsStep.{counted-le}
 
 -- none of those that take it goes along totals
 both-true : (a b : Bool) → (a && b) ≡ true → (a ≡ true) × (b ≡ true)
@@ -157,5 +158,5 @@ module _ (w v : World) (cpu : CpuNo) (work : Work) (h : IsKept w.hardware w) (wo
         arith,
         room.counts k was,
         same-count k was on_was sampling,
-        counted-most work (instance_at w k).attr (instance_at w k).attr.kind,
+        counted-le work (instance_at w k).attr (instance_at w k).attr.kind,
       ))))

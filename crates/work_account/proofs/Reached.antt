@@ -10,16 +10,14 @@ use Rattle.world_spec.specs.{Value.{World, entry_at, instance_at, leaders_of, is
 use Rattle.world_spec.specs.{Kept.{post_at, leads, once_if, IsKept}, Listings.{pass_leaders}, Working.{keys_by_pass, leaders_by_pass}}
 use Rattle.world_spec.proofs.{Counting.{times-filter}, Families.{members-are}}
 use Rattle.world_spec.proofs.Keys.{is_key-same, times-cons, once-true}
-use Rattle.world_spec.proofs.Listings.{passes-are, flat-mapped, reached-leading, one-on_processor}
+use Rattle.world_spec.proofs.Listings.{passes-are, flat-mapped, reached-leading, one-on_processor, count-mapped}
 use Rattle.world_tables.specs.Places.{picked}
+use Rattle.world_spec.proofs.Along.{chosen-some, chosen-passes}
+use Rattle.perf_world.proofs.Turning.{live-below, running-below}
 
 -- whether an instance is of the family of a slot
 abbrev pub is_in : World → ℕ → Key → Bool
 is_in w slot k = (instance_at w k).event.0 == slot
-
-counted-image : (w : World) (p : Instance → Bool) (keys : List Key) → count_by p (map (instance_at w) keys) ≡ count_by (λ k. p (instance_at w k)) keys
-counted-image w p [] = refl
-counted-image w p (k ∷ keys) = search (nat_tests, count-cons, counted-image w p keys)
 
 pub one-each : (hw : Hardware) (w : World) (cpu : CpuNo) → IsKept hw w → (slot : ℕ) → count_by (is_in w slot) (keys_by_pass w cpu) ≤ 1
 one-each hw w cpu h slot =
@@ -27,25 +25,12 @@ one-each hw w cpu h slot =
     let leaders : List Key = leaders_by_pass w cpu in
     let are : reached (stage_of w) cpu ≡ map (instance_at w) (keys_by_pass w cpu) =
     ap (λ ps. members (flat_map (λ p. p) ps)) (passes-are w cpu) ∙ (ap members (flat-mapped (group_at w) (pass_leaders w cpu)) ∙ members-are hw w h leaders (reached-leading hw w h cpu)) in
-    omega (arith, one-on_processor hw w cpu e h, ap (count_by (is_of_family e)) are, counted-image w (is_of_family e) (keys_by_pass w cpu))
+    omega (arith, one-on_processor hw w cpu e h, ap (count_by (is_of_family e)) are, count-mapped w (is_of_family e) (keys_by_pass w cpu))
 
 pub stands-first : (k : Key) (keys : List Key) → 1 ≤ times k (k ∷ keys)
 stands-first k keys = omega (arith, times-cons k k keys, once-true (is_key k k) (is_key-same k k refl))
 
 -- some of a list
-pub chosen-some : (p : Key → Bool) (keys : List Key) (q : Key) → 1 ≤ times q (filter p keys) → 1 ≤ times q keys
-chosen-some p keys q some = at-most (p q) (omega (arith, some, times-filter q p keys))
-  where
-    at-most : (b : Bool) → 1 ≤ cond b (times q keys) 0 → 1 ≤ times q keys
-    at-most true h = h
-    at-most false h = absurd (omega (arith, h))
-
-pub chosen-passes : (p : Key → Bool) (keys : List Key) (q : Key) → 1 ≤ times q (filter p keys) → p q ≡ true
-chosen-passes p keys q some = elim (cases_Bool (p q)) [
-  | inl e ↦ e
-  | inr e ↦ absurd (omega (arith, some, times-filter q p keys, ap (λ b. cond b (times q keys) 0) e))
-]
-
 -- who stands in a list of a context leads, and a task that runs has a number below 64
 leads-where : (lead other third : Bool) → 1 ≤ once_if (lead && other && third) → lead ≡ true
 leads-where true other third h = refl
@@ -56,10 +41,3 @@ listed-leads hw w c true q h some =
     leads-where (leads (post_at w) q) (place_of (entry_at w q).context == place_of c) (if (entry_at w q).pinned then true else false) (omega (arith, some, h.linked.pinned q (place_of c)))
 listed-leads hw w c false q h some =
     leads-where (leads (post_at w) q) (place_of (entry_at w q).context == place_of c) (if (entry_at w q).pinned then false else true) (omega (arith, some, h.linked.flexible q (place_of c)))
-
-live-below : (tasks : List TaskStatus) (n : ℕ) → is_live_task (slice_index_or tasks n unknown_task).state ≡ true → n < length tasks
-live-below tasks n live = grind (arith, nat_tests, cases_lt, false≢true, get_or_past)
-
-pub task-below : (hw : Hardware) (w : World) (cpu : CpuNo) (o : Option TaskNo) → IsKept hw w → o ≡ task_on (stage_of w) cpu → IfSome o (λ t. t.0 < 64)
-task-below hw w cpu None h on = tt
-task-below hw w cpu (Some task) h on = omega (arith, live-below w.quiet.tasks task.0 (h.running.live cpu task (sym on)), h.shape.tasks)

@@ -9,7 +9,7 @@ use Rattle.stage_spec.specs.{Stage.{original_of}, Verdict.{on_instances}}
 use Rattle.ring_spec.specs.{Running.{RingAccount, ring_after, losses_on, more_lost}, Sending.{SentSample, to_ring, sent_by_family, overflows_by}}
 use Rattle.sample_ring.specs.RingLists.{RingList, OutList}
 use Rattle.world_spec.specs.{Value.{World, is_live, instance_at, account_at, is_key, times}, StageOf.{stage_of}, Kept.{IsKept}, Metering.{IsWorked}}
-use Rattle.world_spec.{specs.{Rescheduled.{IsJudged}, Working.{is_on, keys_by_pass}}, proofs.{Along.{keys-live, on-keys}, Counting.{times-filter}}}
+use Rattle.world_spec.{specs.{Rescheduled.{IsJudged}, Working.{is_on, keys_by_pass}}, proofs.{Along.{keys-live, on-keys, chosen-some}, Counting.{times-filter}}}
 use Rattle.world_spec.proofs.Keys.{is_key-same, times-cons, once-true}
 use Rattle.work_account.specs.declared.{overflowing.Overflow.{Overflow}, samples.Stretch.{Stretch}}
 use Rattle.work_account.specs.Ends.{Ends, AreTogether, HaveAccounts, HaveSpace, send_all}
@@ -17,13 +17,9 @@ use Rattle.work_account.specs.Sampling.{AreLeft, HasInstance, HaveRings, HaveSpa
 use Rattle.work_account.{specs.Visits.{samples, takes, hit_at, hits_among, overflow_of}, proofs.Accounts.{AreSized, accounts-after, lost-after}}
 use Rattle.work_account.proofs.{Sequences.{together-after}, Shared.{is-zero}, Sized.{all-sized}}
 use Rattle.work_account.specs.declared.happening.Happening.TheVariants as happening
+use Rattle.ring_spec.proofs.Overflowing.{none_by}
 
 -- without a period there is no overflow, and no overflow sends nothing
-never-over : (n left : ℕ) → overflows n 0 left ≡ 0
-unfolding overflows
-never-over zero left = refl
-never-over (suc n) left = omega (arith, never-over n (left_after_one 0 left))
-
 nothing-to : (o : Option RingNo) (sent : SentSample) → to_ring o 0 sent ≡ []
 nothing-to None sent = refl
 nothing-to (Some ring) sent = refl
@@ -60,7 +56,7 @@ module _ (w : World) (cpu : CpuNo) (work : Work) (clock : ℕ) (left : ℕ → �
 
   none-sends : (i : Instance) → samples i ≡ false → of_instance i ≡ []
   none-sends i off =
-      ap (λ (n : ℕ). sends n i) (ap (λ (p : ℕ). overflows (work_hits work i) p (left i.id)) (period-zero i off) ∙ never-over (work_hits work i) (left i.id))
+      ap (λ (n : ℕ). sends n i) (ap (λ (p : ℕ). overflows (work_hits work i) p (left i.id)) (period-zero i off) ∙ none_by (work_hits work i) (left i.id))
       ∙ nothing-sent (original_of (stage_of w) i.event) i
 
   all-sends : AreLeft w left → (keys : List Key) → ((k : Key) → 1 ≤ times k keys → is_live w k ≡ true)
@@ -83,13 +79,6 @@ module _ (w : World) (cpu : CpuNo) (work : Work) (clock : ℕ) (left : ℕ → �
           rest ∙ ap (λ (l : List (RingNo × SentSample)). l ++ flat_map of_instance (map (instance_at w) (filter (is_on w) keys))) (sym (none-sends (instance_at w k) is))
       one false false is same rest = rest
 
-chosen : (p : Key → Bool) (keys : List Key) (q : Key) → 1 ≤ times q (filter p keys) → 1 ≤ times q keys
-chosen p keys q some = one (p q) (omega (arith, some, times-filter q p keys))
-  where
-    one : (b : Bool) → 1 ≤ cond b (times q keys) 0 → 1 ≤ times q keys
-    one true h = h
-    one false h = absurd (omega (arith, h))
-
 -- A world that was worked on; the overflows that its instances then have; and the clock that was read then.
 pub record Timed (w worked : World) (cpu : CpuNo) (work : Work) (found : List Overflow) (clock : ℕ) : Type 0 where
   pub kept : IsKept w.hardware w
@@ -106,7 +95,7 @@ module _ (w worked : World) (cpu : CpuNo) (work : Work) (found : List Overflow) 
   taken = filter (takes (happening.Work work) w) (keys_by_pass w cpu)
 
   taken-live : (k : Key) → 1 ≤ times k taken → is_live w k ≡ true
-  taken-live k some = lives k (chosen (takes (happening.Work work) w) (keys_by_pass w cpu) k some)
+  taken-live k some = lives k (chosen-some (takes (happening.Work work) w) (keys_by_pass w cpu) k some)
 
   overs : (n : ℕ) (left : ℕ → ℕ) (keys : List Key) → ((k : Key) → 1 ≤ times k keys → is_live w k ≡ true)
       → map (overflow_of worked) (map (hit_at (happening.Work work) w) keys) ≡ map (over w cpu work n left) keys

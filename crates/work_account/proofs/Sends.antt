@@ -13,10 +13,10 @@ use Rattle.work_account.specs.Ends.{sent_among, loses_among, is_lost}
 pub at-place : (P : OutEnd → Type 0) (outs : List OutEnd) (i : ℕ) (o : OutEnd) → slice_get outs i ≡ Some o → All P outs → P o
 at-place P outs i o at all = subst P (get_or_from_slice_get outs i o o at) (All-get_or P outs i o (slice_get_within outs i o at) all)
 
-place-here : (n ring : RingNo) (numbers : List RingNo) → n.0 ≡ ring.0 → ring_index (n ∷ numbers) ring ≡ 0
+pub place-here : (n ring : RingNo) (numbers : List RingNo) → n.0 ≡ ring.0 → ring_index (n ∷ numbers) ring ≡ 0
 place-here n ring numbers e = let its : (n.0 == ring.0) ≡ true = grind (arith, nat_tests, e) in ap (λ (b : Bool). cond (not b) (1 + ring_index numbers ring) 0) its
 
-place-later : (n ring : RingNo) (numbers : List RingNo) → (n.0 ≡ ring.0 → ⊥) → ring_index (n ∷ numbers) ring ≡ suc (ring_index numbers ring)
+pub place-later : (n ring : RingNo) (numbers : List RingNo) → (n.0 ≡ ring.0 → ⊥) → ring_index (n ∷ numbers) ring ≡ suc (ring_index numbers ring)
 place-later n ring numbers off = grind (arith, nat_tests)
 
 pub found-is : (numbers : List RingNo) (outs : List OutEnd) (ring : RingNo) (q : Request) (o : OutEnd) → HasRing numbers ring → slice_get outs (ring_index numbers ring) ≡ Some o

@@ -12,6 +12,7 @@ use Rattle.world_spec.proofs.{Along.{keys-live, on-share, reached-keys, share-is
 use Rattle.work_account.specs.{declared.happening.Happening.{Happening}, Visits.{occurs, samples, is_hit_by, takes, hit_at, hits_among, hit_all}}
 use Rattle.work_account.proofs.Struck.{after_hits, hit-out, hit-in, hit-keys}
 use Rattle.work_account.specs.declared.happening.Happening.TheVariants as happening
+use Rattle.world_spec.proofs.Quiet.{none-after}
 
 -- tests that stand together
 regrouped : (i e c s : Bool) → (i && ((e && c) && s)) ≡ ((i && (e && s)) && c)
@@ -22,10 +23,6 @@ regrouped true true true false = refl
 regrouped true true false true = refl
 regrouped true true false false = refl
 
-no-left : (period left : ℕ) → left_after 0 period left ≡ left
-unfolding left_after
-no-left period left = refl
-
 none-left : (n : ℕ) → left_after n 0 0 ≡ 0
 unfolding left_after
 none-left zero = refl
@@ -33,7 +30,7 @@ none-left (suc n) = none-left n
 
 -- an account that nothing was hit of
 no-hits : (period : ℕ) (a : Account) → a ≡ after_hits 0 period a
-no-hits period a = grind (arith, nat_tests, no-left)
+no-hits period a = grind (arith, nat_tests, none-after)
 
 -- the account of an instance after those on a processor that take it were hit
 module _ (x : Happening) (w : World) (cpu : CpuNo) (h : IsKept w.hardware w) (v : World) where

@@ -6,24 +6,11 @@ use Rattle.stage_spec.{specs.{declared.instance.Instance.{Instance}, Stage.{Stag
 use Rattle.ring_spec.specs.{declared.fields.Fields.{Fields}, Records.{field, body_of}}
 use Rattle.ring_spec.specs.Sending.{SentSample, fields_of, has_trailer, trailer_if, sent_of, to_ring, sent_by_family, overflows_by}
 use Rattle.work_account.proofs.Accounts.{IsSized, AreSized}
+use Rattle.ring_spec.proofs.Sizes.{field-short, body-short, trailer_if-short}
 
 -- a field is a word or none
-one-word : (bit sample word : ℕ) → length (field bit sample word) ≤ 1
-one-word bit sample word = either (bit_and sample bit == 0)
-  where
-    either : (b : Bool) → length (if b then [] else word ∷ []) ≤ 1
-    either true = omega arith
-    either false = omega arith
-
 last-field : (words : List ℕ) (n bit sample word : ℕ) → length words ≤ n → length (words ++ field bit sample word) ≤ n + 1
-last-field words n bit sample word h = omega (arith, h, one-word bit sample word, length-append words (field bit sample word))
-
-body-small : (sample : ℕ) (f : Fields) → length (body_of sample f) ≤ 8
-body-small sample f = grind (arith, last-field)
-
-trailer-small : (b : Bool) (sample : ℕ) (f : Fields) → length (trailer_if b sample f) ≤ 6
-trailer-small false sample f = omega arith
-trailer-small true sample f = grind (arith, last-field)
+last-field words n bit sample word h = omega (arith, h, field-short bit sample word, length-append words (field bit sample word))
 
 -- so each record sent is
 module _ (s : Stage) (cpu : CpuNo) (work : Work) (clock : ℕ) where
@@ -40,7 +27,7 @@ module _ (s : Stage) (cpu : CpuNo) (work : Work) (clock : ℕ) where
   by-sized (Some original) n i =
       let f : Fields = fields_of s cpu work clock original.id i in
       ring-sized original.ring n (sent_of original work i f)
-      (body-small i.attr.sample f, trailer-small (has_trailer original.attr) original.attr.sample (record f { stream_id = original.id }))
+      (body-short i.attr.sample f, trailer_if-short (has_trailer original.attr) original.attr.sample (record f { stream_id = original.id }))
 
   pub all-sized : (left : ℕ → ℕ) (instances : List Instance)
       → AreSized (flat_map (λ i. sent_by_family (original_of s i.event) s cpu work clock (overflows_by work (left i.id) i) i) instances)

@@ -14,11 +14,9 @@ use Rattle.line_forms.{specs.Words.{strip}, proofs.Laws.{form-takes, form-again,
 use Rattle.script_read.specs.Progress.{AsksOf, IsFirstOf}
 use Rattle.script_read.proofs.Beginning.{sound_line, faulty_line, form_faulty, ascii_faulty, end_faulty, range_first, perf_taken, machine_asks, bare_asks, before_place}
 use Rattle.script_read.proofs.Whole.{sound_more}
+use Rattle.perf_base.proofs.Kept.{All-none}
 
 -- ---- what all of them share
-
-no_lines : {A : Type 0} (P : A → Type 0) → All P []
-no_lines P = λ k d l. absurd (omega (arith, l))
 
 empty_sound : (v : Version) → AreSound v [] []
 empty_sound v = record { as_many = refl; each = λ k l. absurd (omega (arith, l)) }
@@ -28,7 +26,7 @@ is_plain [] = true
 is_plain (b ∷ line) = leb 32 b && (leb b 126 && is_plain line)
 
 plain : (line : List ℕ) → is_plain line ≡ true → All IsPrintable line
-plain [] e = no_lines IsPrintable
+plain [] e = All-none IsPrintable
 plain (b ∷ line) e =
     let low = and_parts (leb 32 b) (leb b 126 && is_plain line) e in
     let high = and_parts (leb b 126) (is_plain line) low.1 in
@@ -49,7 +47,7 @@ formless v before line no_end p e = form_faulty v before line no_end (plain line
 -- an empty text, and one whose only line is not ended
 empty_text : IsRefused [] 0 reason.End
 unfolding pieces
-empty_text = ([], inr (inr (record { sound = empty_sound form.One; ended = refl; no_end = no_lines IsNoEnd; number = refl; is_end = refl })))
+empty_text = ([], inr (inr (record { sound = empty_sound form.One; ended = refl; no_end = All-none IsNoEnd; number = refl; is_end = refl })))
 
 no_final_newline : IsRefused (codes "perf 1") 1 reason.End
 unfolding pieces
@@ -60,15 +58,15 @@ first_line text line r within v is h = grind (arith, sound, empty_sound, faulty,
 
 two_spaces : IsRefused (codes "perf  1\n") 1 reason.Form
 unfolding pieces form_at body_at perf_at strip
-two_spaces = first_line (codes "perf  1\n") (codes "perf  1") reason.Form (omega arith) refl refl (formless form.One [] (codes "perf  1") (no_lines IsNoEnd) refl refl)
+two_spaces = first_line (codes "perf  1\n") (codes "perf  1") reason.Form (omega arith) refl refl (formless form.One [] (codes "perf  1") (All-none IsNoEnd) refl refl)
 
 unknown_version : IsRefused (codes "perf 3\n") 1 reason.Form
 unfolding pieces form_at body_at perf_at strip
-unknown_version = first_line (codes "perf 3\n") (codes "perf 3") reason.Form (omega arith) refl refl (formless form.One [] (codes "perf 3") (no_lines IsNoEnd) refl refl)
+unknown_version = first_line (codes "perf 3\n") (codes "perf 3") reason.Form (omega arith) refl refl (formless form.One [] (codes "perf 3") (All-none IsNoEnd) refl refl)
 
 tab_in_line : IsRefused (codes "perf\t1\n") 1 reason.Ascii
 unfolding pieces
-tab_in_line = first_line (codes "perf\t1\n") (codes "perf\t1") reason.Ascii (omega arith) refl refl (ascii_faulty form.One [] (codes "perf\t1") (no_lines IsNoEnd) (λ h. let z = h 4 0 (omega arith) in omega (arith, z.0)))
+tab_in_line = first_line (codes "perf\t1\n") (codes "perf\t1") reason.Ascii (omega arith) refl refl (ascii_faulty form.One [] (codes "perf\t1") (All-none IsNoEnd) (λ h. let z = h 4 0 (omega arith) in omega (arith, z.0)))
 
 -- ---- behind a first line and a machine
 
@@ -92,15 +90,15 @@ unfolding pieces digits
 read_is = record { of_version = tt; spelling = (omega arith, tt); is = refl }
 
 perf_no_end : All IsNoEnd (form.Perf form.One ∷ [])
-perf_no_end = All-cons IsNoEnd (form.Perf form.One) [] tt (no_lines IsNoEnd)
+perf_no_end = All-cons IsNoEnd (form.Perf form.One) [] tt (All-none IsNoEnd)
 
 no_end : All IsNoEnd one_processor
-no_end = All-cons IsNoEnd (form.Perf form.One) (form.Machine 1 1 ∷ []) tt (All-cons IsNoEnd (form.Machine 1 1) [] tt (no_lines IsNoEnd))
+no_end = All-cons IsNoEnd (form.Perf form.One) (form.Machine 1 1 ∷ []) tt (All-cons IsNoEnd (form.Machine 1 1) [] tt (All-none IsNoEnd))
 
 perf_sound : AreSound form.One (codes "perf 1" ∷ []) (form.Perf form.One ∷ [])
 perf_sound =
     sound_more form.One [] [] (codes "perf 1") (form.Perf form.One) (empty_sound form.One)
-    (sound form.One [] (codes "perf 1") (form.Perf form.One) (no_lines IsNoEnd) refl perf_is (perf_taken form.One).asks)
+    (sound form.One [] (codes "perf 1") (form.Perf form.One) (All-none IsNoEnd) refl perf_is (perf_taken form.One).asks)
 
 both_sound : AreSound form.One (codes "perf 1" ∷ codes "machine cpus=1 counters=1" ∷ []) one_processor
 both_sound =
@@ -159,7 +157,7 @@ covered cpu l = (0, record { counters = 1; cpus = record { 0 = 1 } }, omega arit
     first_of n e = rw e refl
 
 behind : (f : Form) → 1 ≤ section f → IsUnder one_processor f → IsBehindPmus one_processor f
-behind f l under = grind (arith, All-cons, no_lines)
+behind f l under = grind (arith, All-cons, All-none)
 
 mask_is : IsOfForm form.One (words_of (codes "kind a mask=2")) (form.Kind (codes "a") 2)
 unfolding pieces form_at body_at kind_at name_at name number_at number strip
@@ -260,32 +258,32 @@ unfolding pieces
 last_is = record { of_version = tt; spelling = tt; is = refl }
 
 second_no_end : All IsNoEnd (form.Perf form.Two ∷ [])
-second_no_end = All-cons IsNoEnd (form.Perf form.Two) [] tt (no_lines IsNoEnd)
+second_no_end = All-cons IsNoEnd (form.Perf form.Two) [] tt (All-none IsNoEnd)
 
 two_no_end : All IsNoEnd two_processors
-two_no_end = All-cons IsNoEnd (form.Perf form.Two) (form.MachineOfPmus 2 ∷ []) tt (All-cons IsNoEnd (form.MachineOfPmus 2) [] tt (no_lines IsNoEnd))
+two_no_end = All-cons IsNoEnd (form.Perf form.Two) (form.MachineOfPmus 2 ∷ []) tt (All-cons IsNoEnd (form.MachineOfPmus 2) [] tt (All-none IsNoEnd))
 
 three_no_end : (cpus : ℕ) → All IsNoEnd (form.Perf form.Two ∷ form.MachineOfPmus 2 ∷ form.Pmu 0 1 cpus ∷ [])
-three_no_end cpus = grind (arith, All-cons, no_lines)
+three_no_end cpus = grind (arith, All-cons, All-none)
 
 two_sound : AreSound form.Two (codes "perf 2" ∷ codes "machine cpus=2" ∷ []) two_processors
 two_sound =
     sound_more form.Two (codes "perf 2" ∷ []) (form.Perf form.Two ∷ []) (codes "machine cpus=2") (form.MachineOfPmus 2)
     (sound_more form.Two [] [] (codes "perf 2") (form.Perf form.Two) (empty_sound form.Two)
-    (sound form.Two [] (codes "perf 2") (form.Perf form.Two) (no_lines IsNoEnd) refl second_is (perf_taken form.Two).asks))
+    (sound form.Two [] (codes "perf 2") (form.Perf form.Two) (All-none IsNoEnd) refl second_is (perf_taken form.Two).asks))
     (sound form.Two (form.Perf form.Two ∷ []) (codes "machine cpus=2") (form.MachineOfPmus 2) second_no_end refl bare_is
     (bare_asks (form.Perf form.Two ∷ []) 2 refl (omega arith, omega arith)))
 
 pmu_asks : (cpus : ℕ) → 0 < cpus → cpus < 4 → (q : SReason) → AsksOf two_processors (form.Pmu 0 1 cpus) q
 pmu_asks cpus a b reason.Place = record {
   behind_machine = omega arith;
-  sections = All-cons (λ g. section g ≤ 2) (form.Perf form.Two) (form.MachineOfPmus 2 ∷ []) (omega arith) (All-cons (λ g. section g ≤ 2) (form.MachineOfPmus 2) [] (omega arith) (no_lines (λ g. section g ≤ 2)));
+  sections = All-cons (λ g. section g ≤ 2) (form.Perf form.Two) (form.MachineOfPmus 2 ∷ []) (omega arith) (All-cons (λ g. section g ≤ 2) (form.MachineOfPmus 2) [] (omega arith) (All-none (λ g. section g ≤ 2)));
 }
 pmu_asks cpus a b reason.Range = record {
   next = refl;
   few = omega arith;
   line = record { counters = (omega arith, omega arith); cpus = (a, b) };
-  apart = no_lines (λ p. AreApart p (record { counters = 1; cpus = record { 0 = cpus } }));
+  apart = All-none (λ p. AreApart p (record { counters = 1; cpus = record { 0 = cpus } }));
 }
 pmu_asks cpus a b other = tt
 
@@ -302,7 +300,7 @@ overlap_placed : IsInOrder (with_pmu_on 3) (form.Pmu 1 1 2)
 overlap_placed = record {
   behind_machine = omega arith;
   sections = All-cons (λ g. section g ≤ 2) (form.Perf form.Two) (form.MachineOfPmus 2 ∷ form.Pmu 0 1 3 ∷ []) (omega arith)
-      (All-cons (λ g. section g ≤ 2) (form.MachineOfPmus 2) (form.Pmu 0 1 3 ∷ []) (omega arith) (All-cons (λ g. section g ≤ 2) (form.Pmu 0 1 3) [] (omega arith) (no_lines (λ g. section g ≤ 2))));
+      (All-cons (λ g. section g ≤ 2) (form.MachineOfPmus 2) (form.Pmu 0 1 3 ∷ []) (omega arith) (All-cons (λ g. section g ≤ 2) (form.Pmu 0 1 3) [] (omega arith) (All-none (λ g. section g ≤ 2))));
 }
 
 masks_overlap : IsRefused (codes "perf 2\nmachine cpus=2\npmu 0 counters=1 cpus=3\npmu 1 counters=1 cpus=2\n") 4 reason.Range

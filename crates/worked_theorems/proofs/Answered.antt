@@ -9,6 +9,7 @@ use Rattle.stage_spec.specs.{History.{Step, CpuStep, ToolStep, SeenStep, steps_o
 use Rattle.ring_spec.specs.{Records.{record_size}, Rings.{account_of, bytes_of, bytes_in, sizes_in, lost_count}}
 use Rattle.ring_spec.{specs.Running.{RingAccount, Running, record_after, IsAnswerBy}, proofs.Running.{IsKept, kept-step, answer_is, in_account}}
 use Rattle.ring_laws.proofs.Tails.{seen_tail}
+use Rattle.ring_spec.proofs.Sizes.{sum_from}
 
 -- whether a place stands behind some of the records of these sizes
 abbrev pub is_behind : (at place : ℕ) → List ℕ → Bool
@@ -39,10 +40,6 @@ RunRings hw End k (x ∷ steps) [] = ⊥
 RunRings hw End k (x ∷ steps) (a ∷ replies) = IsAnswerBy hw k x a × RunRings hw End (record_after hw k x) steps replies
 
 -- what is behind
-sum_from : (a : ℕ) (xs : List ℕ) → fold ◌+◌ a xs ≡ a + sum xs
-sum_from a [] = omega arith
-sum_from a (x ∷ xs) = sum_from (a + x) xs ∙ omega (arith, sum_from (0 + x) xs)
-
 pub sum-cons : (x : ℕ) (xs : List ℕ) → sum (x ∷ xs) ≡ x + sum xs
 sum-cons x xs = sum_from (0 + x) xs ∙ omega arith
 

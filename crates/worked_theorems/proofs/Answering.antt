@@ -5,6 +5,7 @@ use Rattle.perf_base.specs.declared.lines.ToolLine.TheVariants as tool_line
 use Rattle.stage_spec.specs.{Hardware.{Hardware}, History.{Step, CpuStep, ToolStep, SeenStep, tool_refusal}, Replies.{IsToolReply, UnlessRefused}}
 use Rattle.ring_spec.specs.Running.{Running, family_by, IsAnswerBy}
 use Rattle.worked_theorems.proofs.answers.Seats.{SeatsBy, seats_by}
+use Rattle.ring_spec.proofs.Agreement.{unless-same}
 
 abbrev DoneBy : Hardware → Running → ToolLine → Reply → Type 0
 DoneBy hw r (tool_line.Seats cpu) a = SeatsBy hw r.stage cpu a
@@ -27,11 +28,7 @@ done_by hw r (tool_line.Output event target) a h = h
 done_by hw r (tool_line.Close event) a h = h
 done_by hw r (tool_line.Why event) a h = h
 
-unless_by : (refusal : Option Reason) (a : Reply) (P Q : Type 0) → (P → Q) → UnlessRefused refusal a P → UnlessRefused refusal a Q
-unless_by (Some reason) a P Q f h = h
-unless_by None a P Q f h = f h
-
 pub answer_by : (hw : Hardware) (r : Running) (x : Step) (a : Reply) → AnswerBy hw r x a → IsAnswerBy hw r x a
 answer_by hw r (CpuStep cpu line) a h = h
-answer_by hw r (ToolStep line) a h = unless_by (tool_refusal hw r.stage line) a (DoneBy hw r line a) (IsToolReply hw r.stage (family_by r) r.lost line a) (done_by hw r line a) h
+answer_by hw r (ToolStep line) a h = unless-same (tool_refusal hw r.stage line) a (DoneBy hw r line a) (IsToolReply hw r.stage (family_by r) r.lost line a) (done_by hw r line a) h
 answer_by hw r (SeenStep ring place) a h = h

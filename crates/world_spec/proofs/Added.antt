@@ -118,7 +118,7 @@ added-sums p is w s t k bound h none event copy low small slot =
     omega (arith, small slot, is.both (plus_keys s keys) away, is.both (plus_keys t keys) away, sums-le p is s t h keys))
 
 -- slots that were used
-or-left : (a b : Bool) → a ≡ true → (a || b) ≡ true
+pub or-left : (a b : Bool) → a ≡ true → (a || b) ≡ true
 or-left true b h = refl
 or-left false b h = absurd (cc)
 

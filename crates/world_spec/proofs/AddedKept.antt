@@ -75,7 +75,7 @@ added-hardware : (w : World) (k : Key) (n : Newcomer) (leader : Option Key) → 
 added-hardware w k n None = refl
 added-hardware w k n (Some first) = refl
 
-context-new : (w : World) (k : Key) (n : Newcomer) (leader : Option Key) → (new_entry w k n leader).context ≡ n.context
+pub context-new : (w : World) (k : Key) (n : Newcomer) (leader : Option Key) → (new_entry w k n leader).context ≡ n.context
 context-new w k n None = refl
 context-new w k n (Some first) = refl
 

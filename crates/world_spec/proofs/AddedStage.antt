@@ -117,7 +117,7 @@ group-grown hw w k first n h dead lead =
     ∙ ap (λ i. map (instance_at w) (after_first ms) ++ i ∷ []) mine))) in
     λ i. record { leader = other-instance w k n (Some first) first far i; siblings = siblings i }
 
-branch : (b c : Bool) (x y : Group) → b ≡ c → (if b then x else y) ≡ (if c then x else y)
+pub branch : (b c : Bool) (x y : Group) → b ≡ c → (if b then x else y) ≡ (if c then x else y)
 branch b c x y e = ap {B = Group} (λ d. if d then x else y) e
 
 joined-stage : (hw : Hardware) (w : World) (k first : Key) (n : Newcomer) → IsKept hw w → is_live w k ≡ false → leads (post_at w) first ≡ true

@@ -35,13 +35,13 @@ other-record hw w r q h mine agree =
     grind (arith, nat_tests, same, drawn, id-lives)
 
 -- the sums of a family
-sums-within : (s t : Key → Sums) (keys : List Key) → ((k : Key) → 1 ≤ times k keys → s k ≡ t k) → plus_keys s keys ≡ plus_keys t keys
+pub sums-within : (s t : Key → Sums) (keys : List Key) → ((k : Key) → 1 ≤ times k keys → s k ≡ t k) → plus_keys s keys ≡ plus_keys t keys
 sums-within s t [] h = refl
 sums-within s t (q ∷ keys) h =
     let first : s q ≡ t q = h q (omega (arith, times-cons q q keys, once-true (is_key q q) (is_key-same q q refl))) in
     rw (first, sums-within s t keys (λ k some. h k (omega (arith, some, times-cons k q keys)))) refl
 
-family-lives : (hw : Hardware) (w : World) → IsKept hw w → (e : EventNo) (k : Key) → 1 ≤ times k (keys_of (family_of w e)) → is_live w k ≡ true
+pub family-lives : (hw : Hardware) (w : World) → IsKept hw w → (e : EventNo) (k : Key) → 1 ≤ times k (keys_of (family_of w e)) → is_live w k ≡ true
 family-lives hw w h e k some = elim (cases_Bool (is_live w k)) [
   | inl live ↦ live
   | inr dead ↦

@@ -22,9 +22,11 @@ use Rattle.world_spec.proofs.Keys.{key-is, is_key-same, is_key-true, times-cons,
 use Rattle.world_spec.proofs.{Listings.{held-by, counted-there, stands_in_task, reached-once, reached-leading, reached-context}, Moving.{leads-parts}}
 use Rattle.world_spec.proofs.Rescheduling.{is_led, is_about, about-groups, among-none, same-id}
 use Rattle.world_spec.proofs.Working.{on-is, ready-is, judged-groups, filter-same}
+use Rattle.world_spec.proofs.Tables.{same_number}
+use Rattle.world_spec.proofs.ComingLinks.{none_of_three}
 
 -- the members of groups
-once-both : (b : Bool) → 1 ≤ once_if b → b ≡ true
+pub once-both : (b : Bool) → 1 ≤ once_if b → b ≡ true
 once-both true h = refl
 once-both false h = absurd (omega (arith, h))
 
@@ -32,7 +34,7 @@ pub member-of : (hw : Hardware) (w : World) → IsKept hw w → (q k : Key) → 
 member-of hw w h q k some = grind (arith, nat_tests, leads-parts, once-both, key-is, is_key-true, some, h.linked.members k q)
 
 -- a test that no key passes
-filter-no : (keys : List Key) → filter (λ k. false) keys ≡ []
+pub filter-no : (keys : List Key) → filter (λ k. false) keys ≡ []
 filter-no [] = refl
 filter-no (k ∷ keys) = filter-no keys
 
@@ -61,10 +63,6 @@ none-eligible hw w cpu id (k ∷ keys) none =
       | inr stays ↦ grind (arith, nat_tests, is_led, stays)
     ]
 
-not-eligible : (ready here counted : Bool) → ready ≡ false → (ready && here && counted) ≡ false
-not-eligible false here counted h = refl
-not-eligible true here counted h = absurd (false≢true (sym h))
-
 pub on-ready : (hw : Hardware) (w : World) (cpu : CpuNo) → IsKept hw w → IsJudged hw w cpu → (q : Key) → 1 ≤ times q (leaders_by_pass w cpu) → stands_on (standing_at w q) ≡ true
     → is_ready (instance_at w q).own ≡ true
 on-ready hw w cpu h judged q some on = elim (cases_Bool (is_ready (instance_at w q).own)) [
@@ -76,7 +74,7 @@ on-ready hw w cpu h judged q some on = elim (cases_Bool (is_ready (instance_at w
       let none : count_by (is_about id) js ≡ 0 =
       about-groups id js ∙ (ap (count_by (is_led id)) (judged-groups hw w cpu)
       ∙ none-eligible hw w cpu id (leaders_by_pass w cpu) (λ k there same.
-      not-eligible (is_ready (instance_at w k).own) _ _ (ap (λ x. is_ready (instance_at w x).own) (same-id hw w h k q (lead k there) (lead q some) same) ∙ off))) in
+      none_of_three (is_ready (instance_at w k).own) _ _ (ap (λ x. is_ready (instance_at w x).own) (same-id hw w h k q (lead k there) (lead q some) same) ∙ off))) in
       let out : standing_at w q ≡ standing.Out = judged.standings q (lead q some) (reached-context hw w h cpu q some) ∙ among-none js (group_at w q) none in
       absurd (false≢true (sym (ap stands_on out) ∙ on))
 ]
@@ -94,7 +92,7 @@ both-true true true h = refl
 both-true false b h = refl
 both-true true false h = absurd (false≢true h)
 
-not-both : (a b : Bool) → b ≡ false → (a && b) ≡ false
+pub not-both : (a b : Bool) → b ≡ false → (a && b) ≡ false
 not-both true b h = h
 not-both false b h = refl
 
@@ -189,9 +187,6 @@ chosen-none hw w h f p keys k lives live none =
     nothing false none e = e
 
 -- a key stands once among those that a processor reaches where its context is on it
-same_number : (m n : ℕ) → m ≡ n → (m == n) ≡ true
-same_number m n e = grind (arith, nat_tests, e)
-
 either-place : (s : Stage) (cpu : CpuNo) (c : Context) → has_context s cpu c ≡ true
     → 1 ≤ once_if (place_of c == place_of (context.Processor cpu)) + once_if (stands_in_task (task_on s cpu) (place_of c))
 either-place s cpu (context.Processor b) there = grind (arith, nat_tests, number_true, once-true, same_number)

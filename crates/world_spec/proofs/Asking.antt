@@ -10,6 +10,7 @@ use Rattle.world_spec.specs.{Value.{World, is_live, instance_at, family_of, is_k
 use Rattle.world_spec.proofs.{Accounts.{family-times}, ComingLinks.{none_of_three}, Copies.{times-at}}
 use Rattle.world_spec.proofs.Families.{all_keys, instances-are, key-lives, family-sums, open-is}
 use Rattle.world_spec.proofs.{Keys.{is_key-same, times-cons, once-true, once-false}, Staying.{origin-is}}
+use Rattle.world_spec.proofs.Agreement.{sums-within, family-lives}
 
 -- the record with the world's own folded sums and lost counts
 abbrev as_world : World → Running → Running
@@ -26,29 +27,7 @@ as-agrees w r a = record {
   rings = refl;
 }
 
-sums-within : (s t : Key → Sums) (keys : List Key) → ((k : Key) → 1 ≤ times k keys → s k ≡ t k) → plus_keys s keys ≡ plus_keys t keys
-sums-within s t [] h = refl
-sums-within s t (k ∷ keys) h =
-    let first : s k ≡ t k = h k (omega (arith, times-cons k k keys, once-true (is_key k k) (is_key-same k k refl))) in
-    let rest : plus_keys s keys ≡ plus_keys t keys = sums-within s t keys (λ q some. h q (omega (arith, some, times-cons q k keys))) in
-    λ i. plus (first i) (rest i)
-
 -- the keys of a family are live
-family-lives : (hw : Hardware) (w : World) → IsKept hw w → (e : EventNo) (k : Key) → 1 ≤ times k (keys_of (family_of w e)) → is_live w k ≡ true
-family-lives hw w h e k some = elim (cases_Bool (is_live w k)) [
-  | inl live ↦ live
-  | inr dead ↦
-      let of : Bool = (instance_at w k).event.0 == e.0 in
-      let copy : Bool = (instance_at w k).copy in
-      absurd (omega (
-        arith,
-        some,
-        family-times w h.linked k e.0,
-        once-false (is_live w k && of && not copy) (none_of_three (is_live w k) of (not copy) dead),
-        once-false (is_live w k && of && copy) (none_of_three (is_live w k) of copy dead),
-      ))
-]
-
 family-is : (hw : Hardware) (w : World) (r : Running) (e : EventNo) → IsKept hw w → AgreesWith w r → family_by (as_world w r) e ≡ family_sums w e.0
 family-is hw w r e h a = grind (arith, family-sums, sums-within, family-lives)
 

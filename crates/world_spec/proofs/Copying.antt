@@ -14,7 +14,8 @@ use Rattle.world_spec.specs.{Adding.{Newcomer, new_instance, add}, Comings.{HasR
 use Rattle.world_spec.{specs.Copying.{copy_from, leaders_in, LeadsLast, FollowsParent, CopyLaw, CopyKeptLaw}, proofs.Renaming.{id-apart, dead-entry}}
 use Rattle.world_spec.proofs.{Keeping.{own-stage, own-kept}, Keys.{is_key-same, times-cons, times-push, once-true, once-false, at_place}}
 use Rattle.world_spec.proofs.{Moving.{leads-parts}, ComingLinks.{middle_fails}, Added.{comes-by, new-entry_at, entry-instance}, AddedKept.{add-kept}}
-use Rattle.world_spec.proofs.AddedStage.{add-stage}
+use Rattle.world_spec.proofs.AddedStage.{add-stage, branch}
+use Rattle.stage_laws.proofs.OneByOneCopies.{join-pushed}
 
 -- The next id is nobody's, so a change of its instance leaves those that were there.
 no-id : (w : World) → AreNumbered (post_at w) w.quiet.next_id → (q : Key) → has_id w.quiet.next_id (instance_at w q) ≡ false
@@ -58,15 +59,6 @@ alone-changed : (w : World) (g : Instance → Instance) → Leaves w g → (chil
 alone-changed w g h child pinned i = grind (arith, nat_tests, lists-are, lists-left, map-set, contexts-left, add-changed)
 
 -- a sibling in the last group
-last-joined : (i : Instance) (gs : List Group) (x : Group) → join_last i (gs ++ x ∷ []) ≡ gs ++ joined i x ∷ []
-unfolding join_last
-last-joined i [] x = refl
-last-joined i (g ∷ []) x = refl
-last-joined i (g ∷ h ∷ gs) x = ap (λ ys. g ∷ ys) (last-joined i (h ∷ gs) x)
-
-branch : (b c : Bool) (x y : Group) → b ≡ c → (if b then x else y) ≡ (if c then x else y)
-branch b c x y e = ap {B = Group} (λ d. if d then x else y) e
-
 abbrev joins : World → Key → (Instance → Instance) → Instance → Key → Group
 joins w m g i q = change_group g (join_id (instance_at w m).id i (group_at w q))
 
@@ -86,7 +78,7 @@ list-joins : (w : World) (m : Key) (g : Instance → Instance) (i : Instance) �
     → (before keys : List Key) → keys ≡ before ++ m ∷ [] → times m keys ≤ 1 → map (joins w m g i) keys ≡ join_last (g i) (map (group_at w) keys)
 list-joins w m g i numbered live h before keys is once =
     let few : times m before ≡ 0 = omega (arith, once, ap (times m) is, times-push m before m, once-true (is_key m m) (is_key-same m m refl)) in
-    grind (arith, nat_tests, map-append, others-unjoined, few, last-joins, last-joined)
+    grind (arith, nat_tests, map-append, others-unjoined, few, last-joins, join-pushed)
 
 -- the lists of all contexts
 same-items : {X : Type 0} (d : X) (xs ys : List X) → length xs ≡ length ys → ((p : ℕ) → slice_index_or xs p d ≡ slice_index_or ys p d) → xs ≡ ys
@@ -116,7 +108,7 @@ times-in : (hw : Hardware) (w : World) → IsKept hw w → (m : Key) (place : �
 times-in hw w h m place true = h.linked.pinned m place
 times-in hw w h m place false = h.linked.flexible m place
 
-at-most-once : (b : Bool) → once_if b ≤ 1
+pub at-most-once : (b : Bool) → once_if b ≤ 1
 at-most-once true = omega arith
 at-most-once false = omega arith
 

@@ -139,7 +139,7 @@ any-there p f k (q ∷ keys) some passes = elim (cases_Bool (p (f q))) [
       rw e (any-there p f k keys (omega (arith, some, times-cons k q keys, once-false (is_key k q) (is_key-other k q apart))) passes)
 ]
 
-any-rest : (a b : Bool) → a ≡ false → (a || b) ≡ true → b ≡ true
+pub any-rest : (a b : Bool) → a ≡ false → (a || b) ≡ true → b ≡ true
 any-rest true b off h = absurd (false≢true (sym off))
 any-rest false b off h = h
 

@@ -102,7 +102,7 @@ disband-same false true k keys l none off = off refl
 disband-same false false k keys l none off = omega (arith, count-append (is_key k) (all_but k l.flexible) keys, times-all_but_same k l.flexible, none)
 
 -- tests
-and_true : (b : Bool) → (b && true) ≡ b
+pub and_true : (b : Bool) → (b && true) ≡ b
 and_true true = refl
 and_true false = refl
 

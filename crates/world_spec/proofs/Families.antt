@@ -18,6 +18,7 @@ use Rattle.world_spec.proofs.{Accounts.{IsSum, counts_are_sums, times_are_sums, 
 use Rattle.world_spec.proofs.{AddedStage.{one-in_option}, Going.{all_three}, GoneStage.{AreLeading}, GoneLeaderStage.{leading-rest, leading-first}}
 use Rattle.world_spec.proofs.Folding.{run_times_are_sums}
 use Rattle.world_spec.proofs.Counting.{times-flat, spread-one, spread-zero, AreSameKeys, same-total, times-filter, find-one, find-none, find-mapped, any-find, any-there, any-key}
+use Rattle.world_spec.proofs.Disbanding.{and_true}
 
 -- the leaders of all contexts, and the keys of all groups
 abbrev pub leaders_both : Leaders → List Key
@@ -110,10 +111,6 @@ family-keys hw w h e k =
     times-filter k (of_family w e) (all_keys w) ∙ (ap (λ n. cond (of_family w e k) n 0) (times-keys hw w h k)
     ∙ (one-family (is_live w k) (of_family w e k) (instance_at w k).copy ∙ sym (family-times w h.linked k e.0)))
 
-and-true : (b : Bool) → (b && true) ≡ b
-and-true true = refl
-and-true false = refl
-
 chosen-one : (live copy : Bool) → live ≡ true → copy ≡ true → cond copy (once_if live) 0 ≡ 1
 chosen-one live copy hl hc = rw (hl, hc) refl
 
@@ -139,7 +136,7 @@ copy-keys hw w h k =
           let low : event < length w.families = omega (arith, h.numbered.slots k parts.0, h.tables.families) in
           let one : total f w.families ≡ 1 = spread-one f no_family w.families 0 event
           (λ p below. h.linked.copies k p ∙ (ap (λ b. once_if (b && event == p && copy)) parts.0 ∙ (ap (λ b. once_if (event == p && b)) parts.1
-          ∙ ap once_if (and-true (event == p) ∙ (turned event p ∙ ap (λ n. n == event) (plus-zero p)))))) (omega arith) (omega (arith, low)) in
+          ∙ ap once_if (and_true (event == p) ∙ (turned event p ∙ ap (λ n. n == event) (plus-zero p)))))) (omega arith) (omega (arith, low)) in
           chosen-one (is_live w k) copy parts.0 parts.1 ∙ sym one
       | inr off ↦
           let none : total f w.families ≡ 0 = spread-zero f no_family w.families
@@ -148,11 +145,11 @@ copy-keys hw w h k =
     ] ∙ sym (times-flat k (λ x. x.copies) w.families)))
 
 -- sums by the keys
-sums-total : (p : Sums → ℕ) → IsSum p → (s : Key → Sums) (keys : List Key) → p (plus_keys s keys) ≡ total (λ k. p (s k)) keys
+pub sums-total : (p : Sums → ℕ) → IsSum p → (s : Key → Sums) (keys : List Key) → p (plus_keys s keys) ≡ total (λ k. p (s k)) keys
 sums-total p is s [] = is.none ∙ sym (total-nil (λ k. p (s k)))
 sums-total p is s (q ∷ keys) = omega (arith, is.both (s q) (plus_keys s keys), sums-total p is s keys, total-cons (λ k. p (s k)) q keys)
 
-same-sums : (s : Key → Sums) (xs ys : List Key) → AreSameKeys xs ys → plus_keys s xs ≡ plus_keys s ys
+pub same-sums : (s : Key → Sums) (xs ys : List Key) → AreSameKeys xs ys → plus_keys s xs ≡ plus_keys s ys
 same-sums s xs ys h =
     let each : (p : Sums → ℕ) → IsSum p → p (plus_keys s xs) ≡ p (plus_keys s ys) = λ p is. sums-total p is s xs ∙ (same-total (λ k. p (s k)) xs ys h ∙ sym (sums-total p is s ys)) in
     λ i. record {
@@ -161,7 +158,7 @@ same-sums s xs ys h =
       running = each (λ x. x.running) run_times_are_sums i;
     }
 
-each-by_keys : (f : Instance → Sums) (w : World) (keys : List Key) → plus_each f (map (instance_at w) keys) ≡ plus_keys (λ k. f (instance_at w k)) keys
+pub each-by_keys : (f : Instance → Sums) (w : World) (keys : List Key) → plus_each f (map (instance_at w) keys) ≡ plus_keys (λ k. f (instance_at w k)) keys
 each-by_keys f w [] = refl
 each-by_keys f w (q ∷ keys) = ap (plus (f (instance_at w q))) (each-by_keys f w keys)
 
@@ -184,7 +181,7 @@ family-ids hw w e h n =
     ∙ (sym (total-map (one_if (has_id n)) (instance_at w) found)
     ∙ (sym (count_by-is-total (has_id n) (map (instance_at w) found)) ∙ ap (count_by (has_id n)) (sym (family-instances hw w h e)))))))
 
-length-total : (keys : List Key) → length keys ≡ total (λ k. 1) keys
+pub length-total : (keys : List Key) → length keys ≡ total (λ k. 1) keys
 length-total [] = sym (total-nil {X = Key} (λ k. 1))
 length-total (q ∷ keys) = omega (arith, total-cons (λ k. 1) q keys, length-total keys)
 

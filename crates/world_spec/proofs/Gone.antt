@@ -91,7 +91,7 @@ left-sums p is w s t k bound h event copy low small slot =
 account-gone : (w : World) (k : Key) → account_at (left_world w k) k ≡ no_account
 account-gone w k = ap (λ o. unwrap_or o no_account) (get-gone w.accounts k.0 k.0 refl)
 
-account-left : (w : World) (k j : Key) → (j.0 ≡ k.0 → ⊥) → account_at (left_world w k) j ≡ account_at w j
+pub account-left : (w : World) (k j : Key) → (j.0 ≡ k.0 → ⊥) → account_at (left_world w k) j ≡ account_at w j
 account-left w k j apart = ap (λ o. unwrap_or o no_account) (get-left w.accounts k.0 j.0 apart)
 
 account-less : (p : Sums → ℕ) → p no_sums ≡ 0 → (w : World) (k q : Key) → p (account_at (left_world w k) q).sums ≤ p (account_at w q).sums

@@ -10,7 +10,7 @@ use Rattle.world_spec.specs.Value.{World, Entry, Leaders, no_leaders, is_live, e
 use Rattle.world_spec.specs.{StageOf.{after_first, group_at, lists_at, stage_of}, Kept.{post_at, once_if, is_member_of, leads, leads_in, IsKept}}
 use Rattle.world_spec.{specs.Changes.{all_but}, proofs.Renaming.{id-apart}}
 use Rattle.world_spec.proofs.Keys.{key-is, is_key-same, is_key-other, is_key-true, is_key-false, times-cons, all_but-none, once-true, once-false, at_place}
-use Rattle.world_spec.proofs.{Moving.{leads-parts}, ComingLinks.{last_of_two, middle_fails}, ComingGroups.{map-apart}, AddedStage.{times-after_first}}
+use Rattle.world_spec.proofs.{Moving.{leads-parts}, ComingLinks.{last_of_two, middle_fails, all_but_last}, ComingGroups.{map-apart}, AddedStage.{times-after_first}}
 use Rattle.world_spec.proofs.{GoneStage.{goes_by, same-test, AreLeading, listed-lead}, Disbanding.{Disbands, member-follows, disband, AreSiblings}}
 use Rattle.world_spec.proofs.GoneLeader.{AreFreed, led_world, led-disbands, led-instance, siblings-stand}
 
@@ -133,11 +133,8 @@ disband-is true k keys l flexible pinned = λ i. record { pinned = all_but k l.p
 disband-is false k keys l flexible pinned = λ i. record { pinned = sym (all_but-none k l.pinned (pinned refl)) i; flexible = all_but k l.flexible ++ keys }
 
 -- how often the leader stands in its own lists
-two_hold : (a b c : Bool) → a ≡ true → b ≡ true → (a && b && c) ≡ c
-two_hold a b c ha hb = rw (ha, hb) refl
-
 flag-of : (w : World) (k : Key) → leads (post_at w) k ≡ true → (b : Bool) → leads_in (post_at w) (place_of (entry_at w k).context) b k ≡ (if (entry_at w k).pinned then b else not b)
-flag-of w k lead b = grind (arith, nat_tests, two_hold)
+flag-of w k lead b = grind (arith, nat_tests, all_but_last)
 
 one-list : (pinned : Bool) (f : Bool → ℕ) → ((b : Bool) → f b ≡ once_if (if pinned then b else not b)) → f true + f false ≡ 1
 one-list true f h = omega (arith, h true, h false)

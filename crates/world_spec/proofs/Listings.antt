@@ -16,9 +16,10 @@ use Rattle.world_spec.proofs.{Keys.{key-is, is_key-same, is_key-turned, times-co
 use Rattle.world_spec.proofs.{Coming.{number_true}, AddedStage.{one-in_option}, Copies.{times-at}, GoneStage.{AreLeading}, Counting.{times-flat}}
 use Rattle.world_spec.proofs.Reaching.{one-reached}
 use Rattle.world_spec.proofs.Families.{all_keys, times-keys, leaders_both, leaders-at, members_at, members-are, instances-are, key-lives, stands-original, copies-are}
+use Rattle.world_spec.proofs.Copying.{at-most-once}
 
 -- the groups of a context and of the passes
-lists-are : (w : World) (c : Context) → lists_of (stage_of w) c ≡ lists_at w (leaders_of w c)
+pub lists-are : (w : World) (c : Context) → lists_of (stage_of w) c ≡ lists_at w (leaders_of w c)
 lists-are w c = get_or-map (lists_at w) w.contexts (place_of c) no_leaders
 
 task-lists : (w : World) (o : Option TaskNo) → task_lists (stage_of w) o ≡ lists_at w (task_leaders w o)
@@ -70,7 +71,7 @@ count-one test (q ∷ keys) once same =
           )
     ]
 
-count-mapped : (w : World) (p : Instance → Bool) (keys : List Key) → count_by p (map (instance_at w) keys) ≡ count_by (λ k. p (instance_at w k)) keys
+pub count-mapped : (w : World) (p : Instance → Bool) (keys : List Key) → count_by p (map (instance_at w) keys) ≡ count_by (λ k. p (instance_at w k)) keys
 count-mapped w p keys = grind (arith, nat_tests, count_by-is-total, total-map, one_if)
 
 all-mapped : (w : World) (P : Instance → Type 0) (keys : List Key) → ((k : Key) → 1 ≤ times k keys → P (instance_at w k)) → All P (map (instance_at w) keys)
@@ -87,12 +88,8 @@ ap-le : {m n : ℕ} → m ≡ n → n ≤ 1 → m ≤ 1
 ap-le e low = omega (arith, e, low)
 
 -- the whole stage
-at-most-one : (b : Bool) → once_if b ≤ 1
-at-most-one true = omega arith
-at-most-one false = omega arith
-
 all-once : (hw : Hardware) (w : World) → IsKept hw w → (k : Key) → times k (all_keys w) ≤ 1
-all-once hw w h k = omega (arith, times-keys hw w h k, at-most-one (is_live w k))
+all-once hw w h k = omega (arith, times-keys hw w h k, at-most-once (is_live w k))
 
 pub is-numbered : NumberedLaw
 is-numbered hw w h =
@@ -143,7 +140,7 @@ pub one-in_context : OneInContextLaw
 one-in_context hw w c e h =
     ap-le (ap (count_by (is_of_family e)) (context-is hw w c h) ∙ count-mapped w (is_of_family e) (keys_in w c))
     (count-one (λ k. is_of_family e (instance_at w k)) (keys_in w c)
-    (λ k. omega (arith, keys-at hw w h k (place_of c), at-most-one (is_live w k && place_of (entry_at w k).context == place_of c)))
+    (λ k. omega (arith, keys-at hw w h k (place_of c), at-most-once (is_live w k && place_of (entry_at w k).context == place_of c)))
     (λ j k some_j some_k first second.
     let at_j : (is_live w j ≡ true) × (place_of (entry_at w j).context ≡ place_of c) = stands-at hw w h j (place_of c) some_j in
     let at_k : (is_live w k ≡ true) × (place_of (entry_at w k).context ≡ place_of c) = stands-at hw w h k (place_of c) some_k in

@@ -17,46 +17,24 @@ use Rattle.world_spec.specs.Metering.{add_each, add_hits, metered, work_given, I
 use Rattle.world_spec.proofs.{Accounts.{IsSum, counts_are_sums, times_are_sums, family-times, family-once}, Coming.{number_true}}
 use Rattle.world_spec.proofs.{Folding.{run_times_are_sums}, Keeping.{bounded-set}, Keys.{is_key-same, times-cons, once-true}, Moving.{leads-parts}}
 use Rattle.world_spec.proofs.{Reaching.{one-reached}, Ways.{other-ways}}
+use Rattle.stage_laws.proofs.BoundsStep.{greatest-start, greatest-at, unless-le, counted-le}
+use Rattle.world_spec.proofs.ComingLinks.{none_of_two}
 
 -- what one instance is given is at most the most of a line
-greatest-first : (first : ℕ) (numbers : List ℕ) → first ≤ fold max first numbers
-greatest-first first [] = omega arith
-greatest-first first (n ∷ numbers) = omega (arith, le-max_left first n, greatest-first (max first n) numbers)
-
-greatest-at : (first : ℕ) (numbers : List ℕ) (k : ℕ) → slice_index numbers k ≤ fold max first numbers
-greatest-at first [] k = omega arith
-greatest-at first (n ∷ numbers) zero = omega (arith, le-max_right first n, greatest-first (max first n) numbers)
-greatest-at first (n ∷ numbers) (suc k) = greatest-at (max first n) numbers k
-
-unless-most : (b : Bool) (n m : ℕ) → n ≤ m → (if b then 0 else n) ≤ m
-unless-most true n m h = omega arith
-unless-most false n m h = h
-
 pub where-most : (b : Bool) (n m : ℕ) → n ≤ m → (if b then n else 0) ≤ m
 where-most true n m h = h
 where-most false n m h = omega arith
-
-pub counted-most : (work : Work) (a : Attr) (k : Kind) → counted_by work a k ≤ max work.length (greatest work.hits)
-counted-most work a (kind.Hard n) = grind (arith, unless-most, greatest-at, le-max_right)
-counted-most work a kind.ContextSwitches = omega arith
-counted-most work a kind.CpuMigrations = omega arith
-counted-most work a kind.TaskClock = le-max_left work.length (greatest work.hits)
-counted-most work a kind.Dummy = omega arith
 
 -- what is given to some is given where the processor reaches them
 not-given : (b : Bool) (n : ℕ) → b ≡ false → (if b then n else 0) ≡ 0
 not-given b n h = ap {B = ℕ} (λ c. if c then n else 0) h
 
-pub off-first : (a b : Bool) → a ≡ false → (a && b) ≡ false
-off-first true b h = absurd (false≢true (sym h))
-off-first false b h = refl
-
 module _ (w : World) (cpu : CpuNo) (work : Work) where
   pub none-unready : (k : Key) → is_ready_at w cpu k ≡ false → work_given w cpu work k ≡ no_sums
   none-unready k off =
-      let not_on : is_on_at w cpu k ≡ false = off-first (is_ready_at w cpu k) (stands_on (standing_at w (entry_at w k).leader)) off in
+      let not_on : is_on_at w cpu k ≡ false = none_of_two (is_ready_at w cpu k) (stands_on (standing_at w (entry_at w k).leader)) off in
       let count : (work_given w cpu work k).count ≡ 0 = not-given (is_on_at w cpu k && (instance_at w k).attr.period == 0) (work_hits work (instance_at w k))
-      (off-first (is_on_at w cpu k) ((instance_at w k).attr.period == 0) not_on) in
+      (none_of_two (is_on_at w cpu k) ((instance_at w k).attr.period == 0) not_on) in
       let enabled : (work_given w cpu work k).enabled ≡ 0 = not-given (is_ready_at w cpu k) work.length off in
       let running : (work_given w cpu work k).running ≡ 0 = not-given (is_on_at w cpu k) work.length not_on in
       λ i. record { count = count i; enabled = enabled i; running = running i }
@@ -64,7 +42,7 @@ module _ (w : World) (cpu : CpuNo) (work : Work) where
   pub given-most : (k : Key) → AreAtMost (work_given w cpu work k) (most_of_line (cpu_line.Work work))
   given-most k = record {
     count = where-most (is_on_at w cpu k && (instance_at w k).attr.period == 0) (work_hits work (instance_at w k)) (max work.length (greatest work.hits))
-        (counted-most work (instance_at w k).attr (instance_at w k).attr.kind);
+        (counted-le work (instance_at w k).attr (instance_at w k).attr.kind);
     enabled = where-most (is_ready_at w cpu k) work.length work.length (omega arith);
     running = where-most (is_on_at w cpu k) work.length work.length (omega arith);
   }
@@ -214,7 +192,7 @@ module _ (hw : Hardware) (w : World) (h : IsKept hw w) (after : World) (cpu : Cp
       no-account (Some a) none = absurd (false≢true (sym none))
 
 -- clocks and totals
-length-each : (numbers more : List ℕ) → length (add_each numbers more) ≡ length numbers
+pub length-each : (numbers more : List ℕ) → length (add_each numbers more) ≡ length numbers
 length-each [] more = refl
 length-each (n ∷ numbers) [] = refl
 length-each (n ∷ numbers) (m ∷ more) = omega (arith, length-each numbers more)

@@ -134,7 +134,7 @@ count-passes : (id : ℕ) (test : Group → Bool) (ps : List (List Group)) → c
 count-passes id test [] = omega arith
 count-passes id test (p ∷ ps) = grind (arith, nat_tests, count-append, count-filter, count-passes id test ps)
 
-count-leaders : (w : World) (id : ℕ) (keys : List Key) → count_by (is_led id) (map (group_at w) keys) ≡ count_by (λ k. (instance_at w k).id == id) keys
+pub count-leaders : (w : World) (id : ℕ) (keys : List Key) → count_by (is_led id) (map (group_at w) keys) ≡ count_by (λ k. (instance_at w k).id == id) keys
 count-leaders w id [] = refl
 count-leaders w id (k ∷ keys) = search (nat_tests, count-cons, count-leaders w id keys)
 

@@ -7,7 +7,7 @@ use Rattle.perf_base.specs.declared.standing.Standing.TheVariants as standing
 use Rattle.stage_spec.specs.{declared.instance.Instance.{Instance}, Effective.{is_ready, is_hardware, counted_members}, Fits.{IsAssignment}}
 use Rattle.stage_spec.specs.{Hardware.{Hardware, mask_of}, Replies.{seated}, Stage.{Stage, Group, members_of}, Tight.{masks_of}}
 use Rattle.stage_spec.specs.Verdict.{Judged, is_eligible, passes, judge, judge_pass, judge_passes, verdicts, groups_on, with_masks, standing_among}
-use Rattle.stage_laws.{specs.{Briefs.{GroupBrief}, Standings.{brief_of, briefs, standings}}, proofs.Briefs.{by_briefs}}
+use Rattle.stage_laws.{specs.{Briefs.{GroupBrief}, Standings.{brief_of, briefs, standings}}, proofs.Briefs.{by_briefs, filter-one, filter-both}}
 use Rattle.stage_laws.proofs.ByStandings.{settled_by_briefs}
 use Rattle.counter_match.specs.Seating.{Seated, slots_of}
 use Rattle.world_spec.specs.{StageOf.{group_at, stage_of}, Value.{World, seats_at}, Rescheduled.{IsLeft, IsRescheduled, SeatsAnswerLaw, LeftLaw}}
@@ -52,23 +52,10 @@ served_by [] xs = []
 served_by (b ∷ bs) [] = []
 served_by (b ∷ bs) (x ∷ xs) = served_one b x.1 ++ served_by bs xs
 
-one-filtered : (b : Bool) (p q : Instance → Bool) (x : Instance) (xs : List Instance) → p x ≡ b → filter q (filter p xs) ≡ filter (λ y. p y && q y) xs
-    → filter q (filter p (x ∷ xs)) ≡ filter (λ y. p y && q y) (x ∷ xs)
-one-filtered true p q x xs e rest =
-    ap (λ b. filter q (cond b (x ∷ filter p xs) (filter p xs))) e
-    ∙ (ap (λ ys. cond (q x) (x ∷ ys) ys) rest ∙ ap (λ b. cond (b && q x) (x ∷ filter (λ y. p y && q y) xs) (filter (λ y. p y && q y) xs)) (sym e))
-one-filtered false p q x xs e rest =
-    ap (λ b. filter q (cond b (x ∷ filter p xs) (filter p xs))) e
-    ∙ (rest ∙ ap (λ b. cond (b && q x) (x ∷ filter (λ y. p y && q y) xs) (filter (λ y. p y && q y) xs)) (sym e))
-
-filter-twice : (p q : Instance → Bool) (xs : List Instance) → filter q (filter p xs) ≡ filter (λ x. p x && q x) xs
-filter-twice p q [] = refl
-filter-twice p q (x ∷ xs) = one-filtered (p x) p q x xs refl (filter-twice p q xs)
-
 abbrev events_on : Hardware → List Judged → List (EventNo × ℕ)
 events_on hw js = with_masks hw (filter is_hardware (flat_map (λ g. filter (λ i. is_ready i.own) (members_of g)) (groups_on js)))
 
-with_masks-parts : (hw : Hardware) (xs ys : List Instance) → with_masks hw (xs ++ ys) ≡ with_masks hw xs ++ with_masks hw ys
+pub with_masks-parts : (hw : Hardware) (xs ys : List Instance) → with_masks hw (xs ++ ys) ≡ with_masks hw xs ++ with_masks hw ys
 with_masks-parts hw xs ys = map-append (λ i. (i.event, mask_of hw i.attr.kind)) xs ys
 
 abbrev events_on_by : Hardware → Bool → Judged → List Judged → List (EventNo × ℕ)
@@ -82,7 +69,7 @@ served-one hw true j js e =
     ap {B = List (EventNo × ℕ)} (λ b. events_on_by hw b j js) e
     ∙ (ap (with_masks hw) (filter-append is_hardware mine rest)
     ∙ (with_masks-parts hw (filter is_hardware mine) (filter is_hardware rest)
-    ∙ (ap (λ is. with_masks hw is ++ with_masks hw (filter is_hardware rest)) (filter-twice (λ i. is_ready i.own) is_hardware (members_of j.group))
+    ∙ (ap (λ is. with_masks hw is ++ with_masks hw (filter is_hardware rest)) (filter-both (λ i. is_ready i.own) is_hardware (members_of j.group))
     ∙ ap {B = List (EventNo × ℕ)} (λ b. (if b then with_masks hw (counted_members j.group) else []) ++ with_masks hw (filter is_hardware rest)) (sym e))))
 served-one hw false j js e =
     ap {B = List (EventNo × ℕ)} (λ b. events_on_by hw b j js) e

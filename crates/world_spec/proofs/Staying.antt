@@ -10,17 +10,15 @@ use Rattle.world_spec.specs.{Adding.{Newcomer, new_entry, leave_group, taken_out
 use Rattle.world_spec.specs.Staying.{HasGone, HasCome, IsOriginalOf, GoStaysLaw, FoldStaysLaw, AddStaysLaw, OriginLaw}
 use Rattle.world_spec.proofs.{Tables.{get-here, get-there}, Keys.{key-is, is_key-true, once-true, once-false, times-cons}}
 use Rattle.world_spec.proofs.{Coming.{three, number_true}, Added.{added, comes-by, other-instance, new-entry_at, entry-instance}, Going.{Goes}}
-use Rattle.world_spec.proofs.{Gone.{left_world, left-goes, left-instance, get-left}, Disbanding.{disbands-goes}}
+use Rattle.world_spec.proofs.{Gone.{left_world, left-goes, left-instance, get-left, account-left}, Disbanding.{disbands-goes}}
 use Rattle.world_spec.proofs.GoneLeader.{AreFreed, entries_freed, standings_freed, led_world, dropped-leader, tables-freed, led-disbands, led-instance}
 use Rattle.world_spec.proofs.{Dropping.{it-leads}, Folding.{folded-is, copy-may}, Reaching.{is-original}}
+use Rattle.world_spec.proofs.AddedKept.{context-new}
 
 -- an instance that goes
 gone-by : (w t : World) (k : Key) → Goes (post_at w) (post_at t) k → ((j : Key) → (j.0 ≡ k.0 → ⊥) → instance_at t j ≡ instance_at w j) → ((j : Key) → (j.0 ≡ k.0 → ⊥) → account_at t j ≡ account_at w j)
     → t.lost ≡ w.lost → ((e : EventNo) → (e.0 ≡ (instance_at w k).event.0 → ⊥) → family_of t e ≡ family_of w e) → t.folded ≡ w.folded → t.quiet ≡ w.quiet → HasGone w t k
 gone-by w t k g instances accounts lost families folded quiet = grind arith
-
-account-stays : (w : World) (k j : Key) → (j.0 ≡ k.0 → ⊥) → account_at (left_world w k) j ≡ account_at w j
-account-stays w k j apart = ap (λ o. unwrap_or o no_account) (get-left w.accounts k.0 j.0 apart)
 
 family-stays : (w : World) (k : Key) (f : Family) (e : EventNo) → (e.0 ≡ (instance_at w k).event.0 → ⊥)
     → slice_index_or (slice_set w.families (instance_at w k).event.0 f) e.0 no_family ≡ slice_index_or w.families e.0 no_family
@@ -34,10 +32,10 @@ go-stays hw w k h may = elim (cases_Bool (is_key k (entry_at w k).leader)) [
       let t : World = led_world w k (entries_freed w k) (standings_freed w k) in
       let g : Goes (post_at w) (post_at t) k = disbands-goes (post_at w) (post_at t) k (led-disbands w k (entries_freed w k) (standings_freed w k) lead f) in
       subst (λ x. HasGone w x k) (sym (dropped-leader w k own))
-      (gone-by w t k g (led-instance w k (entries_freed w k) (standings_freed w k) f) (account-stays w k) refl (family-stays w k _) refl refl)
+      (gone-by w t k g (led-instance w k (entries_freed w k) (standings_freed w k) f) (account-left w k) refl (family-stays w k _) refl refl)
   | inr sibling ↦
       subst (λ b. HasGone w (taken_out k (instance_at w k) (leave_group k b w)) k) (sym sibling)
-      (gone-by w (left_world w k) k (left-goes hw w k h may.live).goes (left-instance w k) (account-stays w k) refl (family-stays w k _) refl refl)
+      (gone-by w (left_world w k) k (left-goes hw w k h may.live).goes (left-instance w k) (account-left w k) refl (family-stays w k _) refl refl)
 ]
 
 pub fold-stays : FoldStaysLaw
@@ -46,10 +44,6 @@ fold-stays hw w k h live copy =
     search (folded-is, get_or-set_other)
 
 -- an instance that comes
-new-context : (w : World) (k : Key) (n : Newcomer) (leader : Option Key) → (new_entry w k n leader).context ≡ n.context
-new-context w k n None = refl
-new-context w k n (Some first) = refl
-
 record Rests (w : World) (k : Key) (n : Newcomer) (t : World) : Type 0 where
   account : account_at t k ≡ record { sums = no_sums; left = n.attr.period }
   standing : standing_at t k ≡ standing.Out
@@ -78,7 +72,7 @@ rests w k n (Some first) = record {
 
 come-by : (w : World) (k : Key) (n : Newcomer) (leader : Option Key) → is_live w k ≡ false → HasRoom w n leader → HasCome w (added w k n leader) k n
 come-by w k n leader dead room =
-    grind (arith, new-entry_at, entry-instance, new-context, other-instance, added w k n leader, comes-by w k n dead leader room, rests w k n leader)
+    grind (arith, new-entry_at, entry-instance, context-new, other-instance, added w k n leader, comes-by w k n dead leader room, rests w k n leader)
 
 pub add-stays : AddStaysLaw
 add-stays hw w k n h may room = come-by w k n n.leader may.fresh room

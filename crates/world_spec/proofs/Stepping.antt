@@ -7,7 +7,7 @@ use Rattle.perf_base.specs.declared.lines.ToolLine.TheVariants as tool_line
 use Rattle.stage_spec.specs.{declared.instance.Instance.{Instance}, Families.{plus, plus_each, leaving}}
 use Rattle.stage_spec.specs.{Hardware.{Hardware}, History.{Step, CpuStep, ToolStep, SeenStep, stage_step}, Recurrence.{after_reset}}
 use Rattle.stage_spec.specs.Remainders.{instance_of, period_unless, line_period, new_period, left_by}
-use Rattle.stage_spec.{specs.{Shares.{no_sums}, Stage.{Stage, all_instances}}, proofs.Births.{share-none}}
+use Rattle.stage_spec.{specs.{Shares.{no_sums}, Stage.{Stage, all_instances}}, proofs.Births.{share-none, reset-none}}
 use Rattle.stage_spec.proofs.{Each.{Each, head-Each, tail-Each}, Ids.{IdBelow, AllBelow}, Inside.{InStage-from_all}, Present.{each_at}}
 use Rattle.stage_laws.{proofs.Leaders.{find-later}}
 use Rattle.ring_spec.specs.{Account.{is_event}, Agreement.{IsCurrentSlot}, Running.{Running, record_after}, Sending.{length_by}}
@@ -61,10 +61,6 @@ pub instance-none : (hw : Hardware) (w : World) (id : ℕ) → IsKept hw w → w
 instance-none hw w id h past = none-found id (all_instances (stage_of w)) (each-below hw w id h past)
 
 -- a step adds nothing to an id that was not drawn, and sets it no period
-reset-none : (b : Bool) → after_reset b no_sums ≡ no_sums
-reset-none true = refl
-reset-none false = refl
-
 fresh-sums : (hw : Hardware) (w : World) (r : Running) (x : Step) (id : ℕ) → IsKept hw w → AgreesWith w r → w.quiet.next_id ≤ id → (record_after hw r x).sums id ≡ no_sums
 fresh-sums hw w r x id h a past = grind (arith, nat_tests, share-none, all-below, reset-none)
 

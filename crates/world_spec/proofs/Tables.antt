@@ -10,10 +10,10 @@ use Rattle.world_spec.specs.{Value.{World, Entry, is_live, entry_at, instance_at
 pub get-written : {X : Type 0} (m : FinMap nat_cmp X) (k : ℕ) (v : X) (q : ℕ) → get (insert m k v) q ≡ cond (q == k) (Some v) (get m q)
 get-written m k v q = get-insert nat_cmp_total m k v q ∙ ap (λ b. cond b (Some v) (get m q)) (unsigned_tied q k)
 
-same_number : (q k : ℕ) → q ≡ k → (q == k) ≡ true
+pub same_number : (q k : ℕ) → q ≡ k → (q == k) ≡ true
 same_number q k e = grind (arith, nat_tests)
 
-other_number : (q k : ℕ) → (q ≡ k → ⊥) → (q == k) ≡ false
+pub other_number : (q k : ℕ) → (q ≡ k → ⊥) → (q == k) ≡ false
 other_number q k apart = grind (arith, nat_tests)
 
 pub get-here : {X : Type 0} (m : FinMap nat_cmp X) (k : ℕ) (v : X) (q : ℕ) → q ≡ k → get (insert m k v) q ≡ Some v

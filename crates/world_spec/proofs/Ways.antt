@@ -47,7 +47,7 @@ both-off : (a b : Bool) → b ≡ false → false ≡ (a && b)
 both-off true b h = sym h
 both-off false b h = refl
 
-turn-about : (a b c : Bool) → ((a && b) && c) ≡ ((a && c) && b)
+pub turn-about : (a b c : Bool) → ((a && b) && c) ≡ ((a && c) && b)
 turn-about true true true = refl
 turn-about true true false = refl
 turn-about true false true = refl

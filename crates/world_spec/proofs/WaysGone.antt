@@ -14,14 +14,14 @@ use Rattle.world_spec.proofs.{GoneSibling.{GoesAlone}, Keys.{is_key-same, is_key
 use Rattle.world_spec.proofs.{Moving.{leads-parts}, Tables.{get-there}, Ways.{GoesOn, keeps-running}}
 
 -- a leader lives, and leads itself
-leader-live : (hw : Hardware) (w : World) (j : Key) → IsKept hw w → is_live w j ≡ true → is_live w (entry_at w j).leader ≡ true
+pub leader-live : (hw : Hardware) (w : World) (j : Key) → IsKept hw w → is_live w j ≡ true → is_live w (entry_at w j).leader ≡ true
 leader-live hw w j h live = grind (arith, leads-parts)
 
 leader-own : (hw : Hardware) (w : World) (j : Key) → IsKept hw w → is_live w j ≡ true → (entry_at w (entry_at w j).leader).leader.0 ≡ (entry_at w j).leader.0
 leader-own hw w j h live = grind (arith, is_key-true, leads-parts)
 
 -- an instance that comes
-added-standing : (w : World) (k : Key) (n : Newcomer) (leader : Option Key) (q : Key) → (q.0 ≡ k.0 → ⊥) → standing_at (added w k n leader) q ≡ standing_at w q
+pub added-standing : (w : World) (k : Key) (n : Newcomer) (leader : Option Key) (q : Key) → (q.0 ≡ k.0 → ⊥) → standing_at (added w k n leader) q ≡ standing_at w q
 added-standing w k n None q apart = ap (λ o. unwrap_or o standing.Out) (get-there w.standings k.0 standing.Out q.0 apart)
 added-standing w k n (Some first) q apart = ap (λ o. unwrap_or o standing.Out) (get-there w.standings k.0 standing.Out q.0 apart)
 
@@ -49,7 +49,7 @@ left-on hw w k j h there far led_far =
     grind (arith, left-instance, l, get-left)
 
 -- a leader that goes, and its siblings that are freed
-standing-left : (keys : List Key) (m : FinMap nat_cmp Standing) (q : Key) → times q keys ≡ 0 → get (fold freed_standings m keys) q.0 ≡ get m q.0
+pub standing-left : (keys : List Key) (m : FinMap nat_cmp Standing) (q : Key) → times q keys ≡ 0 → get (fold freed_standings m keys) q.0 ≡ get m q.0
 standing-left [] m q none = refl
 standing-left (k ∷ keys) m q none = elim (cases_eq q.0 k.0) [
   | inl e ↦ absurd (omega (arith, none, times-cons q k keys, once-true (is_key q k) (is_key-same q k (sym e))))

@@ -10,6 +10,7 @@ use Rattle.event_times.specs.Times.{enabled_at, running_at}
 use Rattle.event_counts.{proofs.OneByOne.{left_after-no_period}, specs.Counts.{Counts, count_at, followed, restarted, counts_after}}
 use Rattle.world_spec.specs.{Value.{Totals}, Kept.{AreSmallTotals}, Metering.{add_each, add_hits}, Ways.{Way}}
 use Rattle.world_tables.specs.Meters.{Metered, Tallied, IsTally, metered, total_by, total_of, is_metered, goes_along, given, fresh_tally, way_of, sums_at, tally_to}
+use Rattle.world_spec.proofs.Metering.{length-each}
 
 -- lists that are added place by place
 pub add_each-at : (xs ys : List ℕ) → length ys ≡ length xs → (n : ℕ) → slice_index (add_each xs ys) n ≡ slice_index xs n + slice_index ys n
@@ -19,17 +20,12 @@ add_each-at (x ∷ xs) [] same n = absurd (omega arith)
 add_each-at (x ∷ xs) (y ∷ ys) same zero = refl
 add_each-at (x ∷ xs) (y ∷ ys) same (suc n) = add_each-at xs ys (omega arith) n
 
-pub length-add_each : (xs ys : List ℕ) → length (add_each xs ys) ≡ length xs
-length-add_each [] ys = refl
-length-add_each (x ∷ xs) [] = refl
-length-add_each (x ∷ xs) (y ∷ ys) = omega (arith, length-add_each xs ys)
-
 -- what was added at all places
 module _ (before now hits : List ℕ) where
   pub all-added : (n : ℕ) → length hits ≡ length before → length now ≡ length before → length before ≤ n
       → ((k : ℕ) → k < n → slice_index now k ≡ slice_index before k + slice_index hits k) → now ≡ add_each before hits
   all-added n same kept whole done =
-      ext_get_or 0 now (add_each before hits) (kept ∙ sym (length-add_each before hits))
+      ext_get_or 0 now (add_each before hits) (kept ∙ sym (length-each before hits))
       (λ k low. done k (omega (arith, low, kept, whole)) ∙ sym (add_each-at before hits same k))
 
 -- the total of an event gains what the event counts of a line of work

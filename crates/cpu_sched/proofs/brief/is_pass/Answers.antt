@@ -4,8 +4,10 @@ use Rattle.perf_base.specs.declared.numbers.{CpuNo.{CpuNo}, Key.{Key}}
 use Rattle.stage_laws.specs.Briefs.{GroupBrief}
 use Rattle.world_spec.specs.{Listings.{pass_leaders}, Value.{World}}
 use Rattle.cpu_sched.{specs.{declared.group_brief.GroupBrief.{GroupBrief as Stored}, Briefs.{seen, briefs_at}}, proofs.Bounded.{briefs-split}}
-use Rattle.cpu_sched.proofs.{Judged.{same-number, is-number}, Passing.{leads-at}}
+use Rattle.cpu_sched.proofs.Passing.{leads-at}
 use Rattle.cpu_sched.proofs.brief.is_pass.Goals as goal
+use Rattle.world_spec.proofs.Tables.{same_number}
+use Rattle.world_spec.proofs.Coming.{number_true}
 
 pub meet-requires-clause-leads : goal.meet-requires-clause-leads
 meet-requires-clause-leads c =
@@ -39,9 +41,9 @@ returns c =
     let same : map seen (take met groups) ≡ briefs_at w cpu (slice_index_or (pass_leaders w cpu) c.args.pass []) =
     c.loop-leader.invariant.same ∙ ap (briefs_at w cpu) (all ∙ c.leaders-keys.ensures.leaders) in (
       λ h.
-          let number : met ≡ length groups = same-number met (length groups) h in
+          let number : met ≡ length groups = number_true met (length groups) h in
           ap (map seen) (sym (take_all met groups (omega (arith, number)))) ∙ same,
-      λ e. is-number met (length groups) (omega (
+      λ e. same_number met (length groups) (omega (
         arith,
         ap length (e ∙ sym same),
         length-map groups seen,

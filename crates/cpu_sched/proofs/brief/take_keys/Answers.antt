@@ -4,8 +4,9 @@ use Rattle.perf_base.specs.declared.numbers.{CpuNo.{CpuNo}, Key.{Key}}
 use Rattle.stage_spec.specs.Hardware.{counters_of}
 use Rattle.stage_laws.specs.Briefs.{GroupBrief}
 use Rattle.world_spec.specs.Value.{World}
-use Rattle.cpu_sched.{specs.Briefs.{briefs_at, IsGroupBrief}, proofs.{Bounded.{briefs-append}, Retold.{next-key}}}
+use Rattle.cpu_sched.{specs.Briefs.{briefs_at, IsGroupBrief}, proofs.Bounded.{briefs-append}}
 use Rattle.cpu_sched.proofs.brief.take_keys.Goals as goal
+use Rattle.perf_world.proofs.Turning.{take-next}
 
 pub add_eligible-requires-clause-leads : goal.add_eligible-requires-clause-leads
 add_eligible-requires-clause-leads c = c.requires.leads c.loop-leader.leader-index (record { 0 = 0 }) c.loop-leader-test.true
@@ -23,7 +24,7 @@ loop-leader-preserved c =
     let k : Key = slice_index_or keys c.loop-leader.leader-index (record { 0 = 0 }) in
     let P : GroupBrief Key → Type 0 = IsGroupBrief (counters_of w.hardware cpu) in
     let more : briefs_at w cpu done ++ briefs_at w cpu (k ∷ []) ≡ briefs_at w cpu (take (c.loop-leader.leader-index + 1) keys) =
-    sym (briefs-append w cpu done (k ∷ [])) ∙ ap (briefs_at w cpu) (sym (next-key keys c.loop-leader.leader-index (record { 0 = 0 }) c.loop-leader-test.true)) in
+    sym (briefs-append w cpu done (k ∷ [])) ∙ ap (briefs_at w cpu) (sym (take-next keys c.loop-leader.leader-index (record { 0 = 0 }) c.loop-leader-test.true)) in
     record {
       taken = c.add_eligible.ensures.added ∙ (ap (λ bs. bs ++ briefs_at w cpu (k ∷ [])) c.loop-leader.invariant.taken ∙ more);
       sound = subst (All P) more (All-append P (briefs_at w cpu done) (briefs_at w cpu (k ∷ [])) c.loop-leader.invariant.sound c.add_eligible.ensures.sound);

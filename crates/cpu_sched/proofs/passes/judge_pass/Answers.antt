@@ -6,9 +6,10 @@ use Rattle.counter_match.specs.Seating.{AreDistinct}
 use Rattle.world_spec.specs.{Listings.{pass_leaders}, StageOf.{group_at}, Value.{World, seats_at}}
 use Rattle.cpu_sched.{specs.{Judging.{tally_in, tell, tried_in}, Passes.{AreOfTold, told_before}}, proofs.Passing.{leads-at}}
 use Rattle.cpu_sched.proofs.Served.{next-distinct}
-use Rattle.cpu_sched.proofs.Retold.{retold-self, retold-twice, retold-list, retold-told, told-then, events-then, next-key, told-next}
+use Rattle.cpu_sched.proofs.Retold.{retold-self, retold-twice, retold-list, retold-told, told-then, events-then, told-next}
 use Rattle.cpu_sched.proofs.Tried.{tried-then}
 use Rattle.cpu_sched.proofs.passes.judge_pass.Goals as goal
+use Rattle.perf_world.proofs.Turning.{take-next}
 
 pub loop-place-init : goal.loop-place-init
 loop-place-init g c = record {
@@ -50,7 +51,7 @@ tell-so_far-requires-clause-distinct g c =
     let low : c.loop-place.place < length keys = omega (arith, c.loop-place-test.true, ap length c.leaders-place-end.ensures.leaders) in
     let is : k ≡ slice_index_or keys c.loop-place.place (record { 0 = 0 }) = ap (λ ks. slice_index_or ks c.loop-place.place (record { 0 = 0 })) same in
     let next : take (c.loop-place.place + 1) keys ≡ take c.loop-place.place keys ++ k ∷ [] =
-    next-key keys c.loop-place.place (record { 0 = 0 }) low ∙ ap (λ q. take c.loop-place.place keys ++ q ∷ []) (sym is) in
+    take-next keys c.loop-place.place (record { 0 = 0 }) low ∙ ap (λ q. take c.loop-place.place keys ++ q ∷ []) (sym is) in
     subst (λ (w : World). AreDistinct ((seats_at c.loop-place.world c.args.cpu).events ++ with_masks w.hardware (counted_members (group_at w k)))) (sym c.loop-place.invariant.world)
     (next-distinct c.args.world.now.hardware c.args.world.now c.args.cpu c.args.pass c.loop-place.place k (seats_at c.loop-place.world c.args.cpu).events c.leaders-place-end.ensures.kept next c.loop-place.invariant.events)
 
@@ -63,7 +64,7 @@ loop-place-preserved g c =
     let low : c.loop-place.place < length keys = omega (arith, c.loop-place-test.true, ap length c.leaders-place-end.ensures.leaders) in
     let is : k ≡ slice_index_or keys c.loop-place.place (record { 0 = 0 }) = ap (λ ks. slice_index_or ks c.loop-place.place (record { 0 = 0 })) same in
     let next : take (c.loop-place.place + 1) keys ≡ take c.loop-place.place keys ++ k ∷ [] =
-    next-key keys c.loop-place.place (record { 0 = 0 }) low ∙ ap (λ q. take c.loop-place.place keys ++ q ∷ []) (sym is) in
+    take-next keys c.loop-place.place (record { 0 = 0 }) low ∙ ap (λ q. take c.loop-place.place keys ++ q ∷ []) (sym is) in
     let told : List Key = told_before c.args.world.now c.args.cpu c.args.pass in
     record {
       world = retold-twice c.args.cpu c.args.world.now c.loop-place.world c.tell-so_far.new.world c.loop-place.invariant.world c.tell-so_far.ensures.told.world;

@@ -3,8 +3,9 @@ use Rattle.perf_base.specs.Contexts as contexts
 use Rattle.stage_laws.specs.Narrowing.{has_context}
 use Rattle.world_spec.{specs.{Adding.{add}, Value.{World}, Staying.{HasCome}, StageOf.{stage_of}}, proofs.Staying.{add-stays}}
 use Rattle.perf_world.specs.Parts.{newcomer, MayAdd}
-use Rattle.event_open.{specs.Opened.{IsOpenedAs, opened_as}, proofs.{Joining.{may-add, may-come}, Opens.{open-changed}, Others.{IsOpened, is-opened, not-among}}}
+use Rattle.event_open.{specs.Opened.{IsOpenedAs, opened_as}, proofs.{Joining.{may-add}, Opens.{open-changed}, Others.{IsOpened, is-opened, not-among}}}
 use Rattle.event_open.proofs.opening.open.Goals as goal
+use Rattle.perf_world.proofs.Added.{may-come}
 
 pub add-requires-clause-may : goal.add-requires-clause-may
 add-requires-clause-may c =

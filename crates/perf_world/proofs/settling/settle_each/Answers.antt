@@ -1,7 +1,8 @@
 use Rattle.std.proofs.{Common.{◌≡◌, arith, List, subst, take}, lemmas.List.{take_all}}
 use Rattle.perf_base.specs.declared.numbers.Key.{Key}
-use Rattle.perf_world.{specs.Settling.{HasSettled}, proofs.Turning.{none-settled, next-settled, still-led, times-at}}
+use Rattle.perf_world.{specs.Settling.{HasSettled}, proofs.Turning.{none-settled, next-settled, still-led}}
 use Rattle.perf_world.proofs.settling.settle_each.Goals as goal
+use Rattle.world_spec.proofs.Copies.{times-at}
 
 pub loop-key-init : goal.loop-key-init
 loop-key-init c = none-settled c.args.processors.now c.args.events.now

@@ -1,8 +1,9 @@
 use Rattle.std.proofs.{Common.{◌≡◌, ◌<◌, ◌∙◌, arith, List, [], ◌∷◌, ap, subst, take, length, slice_index_or}, lemmas.List.{take_all}}
 use Rattle.perf_base.specs.declared.numbers.Key.{Key}
 use Rattle.world_tables.specs.Columns.{Columns, is_there, entry_in}
-use Rattle.perf_world.{specs.Settling.{group_keys, HasSettled}, proofs.Turning.{none-settled, next-settled, still-led, times-at}}
+use Rattle.perf_world.{specs.Settling.{group_keys, HasSettled}, proofs.Turning.{none-settled, next-settled, still-led}}
 use Rattle.perf_world.proofs.settling.settle_group.Goals as goal
+use Rattle.world_spec.proofs.Copies.{times-at}
 
 pub loop-member-init : goal.loop-member-init
 loop-member-init c = record {

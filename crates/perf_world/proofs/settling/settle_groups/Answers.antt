@@ -1,8 +1,9 @@
 use Rattle.std.proofs.{Common.{◌≡◌, ◌∙◌, arith, List, ap, sym, subst, take, slice_index_or}, lemmas.List.{take_all}}
 use Rattle.perf_base.specs.declared.numbers.Key.{Key}
 use Rattle.world_tables.specs.Columns.{Columns, is_there}
-use Rattle.perf_world.{specs.Settling.{group_keys, list_keys, AreLed, HasSettled}, proofs.Turning.{none-settled, group-settled, group-in, times-at}}
+use Rattle.perf_world.{specs.Settling.{group_keys, list_keys, AreLed, HasSettled}, proofs.Turning.{none-settled, group-settled, group-in}}
 use Rattle.perf_world.proofs.settling.settle_groups.Goals as goal
+use Rattle.world_spec.proofs.Copies.{times-at}
 
 pub loop-leader-init : goal.loop-leader-init
 loop-leader-init c = none-settled c.args.processors.now c.args.events.now

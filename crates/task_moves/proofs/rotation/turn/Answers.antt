@@ -1,8 +1,9 @@
 use Rattle.std.proofs.Common.{◌∙◌, ap, sym}
 use Rattle.stage_spec.specs.Stage.{place_of}
 use Rattle.world_spec.specs.{Changes.{in_list, to_last, with_leaders}, Value.{leaders_of, entry_at}}
-use Rattle.task_moves.{specs.Turning.{last_if}, proofs.Turning.{flexible-there, turning-there, one-context, same-number}}
+use Rattle.task_moves.{specs.Turning.{last_if}, proofs.Turning.{flexible-there, turning-there, one-context}}
 use Rattle.task_moves.proofs.rotation.turn.Goals as goal
+use Rattle.world_spec.proofs.Coming.{number_true}
 
 pub move_last-requires-clause-leads : goal.move_last-requires-clause-leads
 move_last-requires-clause-leads c =
@@ -12,7 +13,7 @@ move_last-requires-clause-leads c =
 pub move_last-requires-clause-context : goal.move_last-requires-clause-context
 move_last-requires-clause-context c =
     one-context (entry_at c.args.world.now c.in-Some.leader).context c.args.context c.requires.place
-    (same-number (place_of (entry_at c.args.world.now c.in-Some.leader).context) (place_of c.args.context)
+    (number_true (place_of (entry_at c.args.world.now c.in-Some.leader).context) (place_of c.args.context)
     (flexible-there c.args.world.now.hardware c.args.world.now c.args.context c.in-Some.leader c.next_to_turn.ensures.kept
     (turning-there c.args.world.now c.args.cpu (leaders_of c.args.world.now c.args.context).flexible c.in-Some.leader (sym c.next_to_turn.ensures.turn ∙ c.in-Some.is))).1)
 

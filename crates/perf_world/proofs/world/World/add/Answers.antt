@@ -1,10 +1,10 @@
 use Rattle.std.proofs.{Common.{◌≡◌, ◌+◌, ◌++◌, [], ◌∷◌, true, false, None, is_some, ap, slice_index_or, sym, subst, ◌∙◌, inl, inr, if◌then◌else◌}, lemmas.Bool.{cases_Bool}}
 use Rattle.stage_spec.specs.{Flags.{is_pinned}, Opening.{is_used}, Shares.{no_sums}, Stage.{place_of}}
 use Rattle.world_spec.specs.{Value.{World, is_live, entry_at}, Ways.{IsTurned}, StageOf.{stage_of}, Adding.{new_instance, in_family, add}}
-use Rattle.world_spec.proofs.{Added.{comes-by}, WaysGone.{add-ways}, AddedKept.{add-kept}, AddedStage.{add-stage}}
+use Rattle.world_spec.proofs.{Added.{comes-by}, WaysGone.{add-ways, leader-live}, AddedKept.{add-kept}, AddedStage.{add-stage}}
 use Rattle.world_tables.specs.{Columns.{Columns, is_there, way_in}, Places.{Slots, with_family}}
 use Rattle.perf_world.specs.{Parts.{newcomer, MayAdd, joined_events, joined_contexts}, Seen.{seen, IsWorld}}
-use Rattle.perf_world.proofs.{TurnedGone.{joined-there, joined-ways}, Turning.{stored-after, settled-turned, leader-live, not-only}}
+use Rattle.perf_world.proofs.{TurnedGone.{joined-there, joined-ways}, Turning.{stored-after, settled-turned, not-only}}
 use Rattle.perf_world.proofs.{Added.{added, added-kept, may-come}, Counted.{room-for-copy, room-for-original}, Kept.{kept-now}}
 use Rattle.perf_world.proofs.Room.{list-room, unlisted, copies-room}
 use Rattle.perf_world.proofs.Clear.{clear-family, clear-used}

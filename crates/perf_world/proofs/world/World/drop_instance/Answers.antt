@@ -1,10 +1,10 @@
 use Rattle.std.proofs.Common.{◌≡◌, true, ap, sym, subst, ◌∙◌, slice_index_or, List, ◌≤◌}
 use Rattle.world_spec.specs.{Value.{no_family, is_live, instance_at, is_key, times, World, entry_at}, StageOf.{stage_of, after_first}}
-use Rattle.world_spec.{specs.{Adding.{drop_instance, out_of_family}, Ways.{IsTurned}}, proofs.{Dropping.{go-kept, go-stage}, WaysGone.{go-ways}}}
+use Rattle.world_spec.{specs.{Adding.{drop_instance, out_of_family}, Ways.{IsTurned}}, proofs.{Dropping.{go-kept, go-stage}, WaysGone.{go-ways, leader-live}}}
 use Rattle.world_tables.specs.{Columns.{Columns, is_there, entry_in, taken, way_in}, Places.{Slots, with_family}}
 use Rattle.perf_world.{specs.Seen.{seen, IsWorld}, proofs.Gone.{gone, left-there, members-there, copy-once, both-true, dropped-kept, leader-there}}
 use Rattle.perf_world.proofs.{Kept.{kept-now, listed-once}, Room.{room-behind}, TurnedGone.{gone-there, gone-self, gone-ways, not-led}}
-use Rattle.perf_world.proofs.Turning.{stored-after, settled-turned, leader-live, sibling-apart}
+use Rattle.perf_world.proofs.Turning.{stored-after, settled-turned, sibling-apart}
 use Rattle.perf_world.proofs.Clear.{clear-family}
 use Rattle.perf_world.proofs.world.World.drop_instance.Goals as goal
 use Rattle.perf_base.specs.declared.numbers.Key.{Key}

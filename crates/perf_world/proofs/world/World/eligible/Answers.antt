@@ -2,8 +2,9 @@ use Rattle.std.{proofs.Common.{◌≡◌, ◌≤◌, ◌∙◌, true, List, ap, 
 use Rattle.perf_base.specs.declared.numbers.Key.{Key}
 use Rattle.stage_spec.specs.{Effective.{is_ready}, Hardware.{is_counted_on}, Places.{may_count_on}, Verdict.{is_eligible}}
 use Rattle.world_spec.specs.{StageOf.{group_at}, Value.{World, times, instance_at}, Kept.{leads, post_at}}
-use Rattle.perf_world.{specs.Seen.{seen}, proofs.Gone.{times-at, member-live, eligible-by}}
+use Rattle.perf_world.{specs.Seen.{seen}, proofs.Gone.{member-live, eligible-by}}
 use Rattle.perf_world.proofs.world.World.eligible.Goals as goal
+use Rattle.world_spec.proofs.Copies.{times-at}
 
 pub are_counted_on-requires-clause-there : goal.are_counted_on-requires-clause-there
 are_counted_on-requires-clause-there c i d low =

@@ -2,12 +2,12 @@ use Rattle.std.proofs.Common.{◌≡◌, true, ap, sym, subst, ◌∙◌, slice_
 use Rattle.stage_spec.specs.{Families.{plus}, Shares.{no_sums}}
 use Rattle.world_spec.specs.{Value.{no_family, is_live, instance_at, account_at, is_key, times, World, entry_at}, StageOf.{stage_of, after_first}}
 use Rattle.world_spec.specs.{Adding.{fold_sums, folded_away, out_of_family}, Kept.{family_sums}, Ways.{IsTurned}}
-use Rattle.world_spec.proofs.{Folding.{fold-kept, fold-stage, fold-sums}, WaysGone.{fold-ways}}
+use Rattle.world_spec.proofs.{Folding.{fold-kept, fold-stage, fold-sums}, WaysGone.{fold-ways, leader-live}}
 use Rattle.world_tables.specs.{Columns.{Columns, is_there, entry_in, taken, way_in}, Places.{Slots, IsBelow, with_family}}
 use Rattle.perf_world.{specs.Seen.{seen, IsWorld}, proofs.Gone.{gone, left-there, members-there, copy-once, fold-room, both-true, dropped-kept}}
 use Rattle.perf_world.proofs.{Gone.{leader-there, fold_families, folded-in}, Kept.{kept-now, listed-once}, Room.{room-behind}}
 use Rattle.perf_world.proofs.TurnedGone.{gone-there, gone-self, gone-ways, not-led}
-use Rattle.perf_world.proofs.Turning.{stored-after, settled-turned, leader-live, sibling-apart}
+use Rattle.perf_world.proofs.Turning.{stored-after, settled-turned, sibling-apart}
 use Rattle.perf_world.proofs.Clear.{clear-family, clear-folded, other-slot}
 use Rattle.stage_spec.specs.declared.instance.Instance.{Instance}
 use Rattle.perf_world.proofs.world.World.fold.Goals as goal

@@ -2,8 +2,9 @@ use Rattle.std.{proofs.Common.{◌≡◌, ◌∙◌, ◌≤◌, true, List, ap, 
 use Rattle.perf_base.specs.declared.numbers.Key.{Key}
 use Rattle.stage_spec.specs.{Effective.{is_wholly_software}, Hardware.{is_software}}
 use Rattle.world_spec.specs.{Kept.{leads, post_at}, StageOf.{group_at}, Value.{World, times, instance_at}}
-use Rattle.perf_world.{specs.Seen.{seen}, proofs.Gone.{times-at, member-live, all-members}}
+use Rattle.perf_world.{specs.Seen.{seen}, proofs.Gone.{member-live, all-members}}
 use Rattle.perf_world.proofs.world.World.is_wholly_software.Goals as goal
+use Rattle.world_spec.proofs.Copies.{times-at}
 
 pub are_software-requires : goal.are_software-requires
 are_software-requires c i d low =

@@ -1,8 +1,9 @@
 use Rattle.std.proofs.Common.{◌≤◌, List, subst, slice_index_or}
 use Rattle.perf_base.specs.declared.numbers.Key.{Key}
 use Rattle.world_spec.specs.Value.{times}
-use Rattle.perf_world.{specs.Seen.{seen}, proofs.{Gone.{times-at}, Room.{copy-there}}}
+use Rattle.perf_world.{specs.Seen.{seen}, proofs.Room.{copy-there}}
 use Rattle.perf_world.proofs.world.World.next_copy.Goals as goal
+use Rattle.world_spec.proofs.Copies.{times-at}
 
 pub first_after-requires : goal.first_after-requires
 first_after-requires c i d low =

@@ -5,8 +5,9 @@ use Rattle.world_spec.proofs.{Tables.{keys-written}, Ways.{own-ways, outside-gro
 use Rattle.world_spec.specs.Changes as change
 use Rattle.world_tables.specs.Columns.{Columns, way_in}
 use Rattle.perf_world.{specs.Seen.{seen, IsWorld}, proofs.Kept.{kept-now}}
-use Rattle.perf_world.proofs.Turning.{stored-after, settled-turned, written-part, leader-live, group-led}
+use Rattle.perf_world.proofs.Turning.{stored-after, settled-turned, written-part, group-led}
 use Rattle.perf_world.proofs.world.World.set_own.Goals as goal
+use Rattle.world_spec.proofs.WaysGone.{leader-live}
 
 pub leader-leader-requires : goal.leader-leader-requires
 leader-leader-requires c =
