@@ -27,7 +27,7 @@ pub struct ToolNo(pub u8);
 
 /// An event instance, by its key in the slab.
 #[derive(Clone, Copy, PartialEq, Eq, Debug, Default)]
-pub struct Key(pub usize);
+pub struct Key(pub u16);
 
 /// A set of processors: bit P stands for processor P.
 #[derive(Clone, Copy, PartialEq, Eq, Debug)]

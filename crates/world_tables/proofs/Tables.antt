@@ -21,6 +21,7 @@ pub table-put : (ms : List Metered) (idle : Metered) (counts now : List ℕ) (s 
 table-put ms idle counts now s after k new table up room tally counted = record {
   samplers = counted;
   room = omega (arith, table.room, room);
+  keys = omega (arith, table.keys, room);
   idle = table.idle;
   tallies = λ q e at.
       elim (cases_eq q k) [
@@ -49,6 +50,7 @@ pub table-taken : (ms : List Metered) (idle : Metered) (counts now : List ℕ) (
 table-taken ms idle counts now s after k table up room counted = record {
   samplers = counted;
   room = omega (arith, table.room, room);
+  keys = omega (arith, table.keys, room);
   idle = table.idle;
   tallies = λ q e at.
       elim (cases_eq q k) [
@@ -58,11 +60,12 @@ table-taken ms idle counts now s after k table up room counted = record {
 }
 
 -- nothing is kept at first
-pub table-new : (ms : List Metered) (idle : Metered) (counts : List ℕ) (s : Slab Kept) → idle ≡ no_meter → counts ≡ replicate 72 0 → s.slots ≡ [] → 4352 ≤ s.capacity
+pub table-new : (ms : List Metered) (idle : Metered) (counts : List ℕ) (s : Slab Kept) → idle ≡ no_meter → counts ≡ replicate 72 0 → s.slots ≡ [] → 4352 ≤ s.capacity → s.capacity ≤ 2 ^ 16
     → IsTable ms idle counts s
-table-new ms idle counts s none nobody empty room = record {
+table-new ms idle counts s none nobody empty room keys = record {
   samplers = counted-none counts s nobody empty;
   room = room;
+  keys = keys;
   idle = none;
   tallies = λ q e at. absurd (let bad : None ≡ Some e = ap (λ (l : List (Option Kept)). slice_index_or l q None) (sym empty) ∙ at in cc);
 }
@@ -234,7 +237,7 @@ module _ (ms : List Metered) (idle : Metered) (counts : List ℕ) (s : Slab Kept
         ]
 
     pub table-worked : IsTable after idle counts s
-    table-worked = record { room = table.room; idle = table.idle; tallies = tally-after; samplers = table.samplers }
+    table-worked = record { room = table.room; keys = table.keys; idle = table.idle; tallies = tally-after; samplers = table.samplers }
 
 -- a context has events that sample where their number is not 0
 pub samplers-are : (ms : List Metered) (idle : Metered) (counts : List ℕ) (s : Slab Kept) (t : Columns) (c : Context) → columns ms s ≡ t → IsTable ms idle counts s → place_of c < 72

@@ -126,10 +126,12 @@ columns meters s = record {
   totals = map (λ m. m.totals) meters;
 }
 
--- There is room for all events, a meter for what is no processor shows nothing, each account is in step with the meter
--- of its processor, and of each context the events that sample are counted.
+-- There is room for all events, and for no more than keys of 16 bits name; a meter for what is no processor shows
+-- nothing, each account is in step with the meter of its processor, and of each context the events that sample are
+-- counted.
 pub record IsTable (meters : List Metered) (spare : Metered) (counts : List ℕ) (s : Slab Kept) : Type 0 where
   pub room : 4352 ≤ s.capacity
+  pub keys : s.capacity ≤ 2 ^ 16
   pub idle : spare ≡ no_meter
   pub tallies : (k : ℕ) (e : Kept) → slab_get s k ≡ Some e → IsTally (meter_at meters e.tally.cpu) e.entry.instance.attr e.tally
   pub samplers : AreCounted counts s

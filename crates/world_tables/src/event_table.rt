@@ -24,6 +24,9 @@ use std::alloc::Global;
 use std::marker::{Brand, Model};
 use std::sync::ledger::{Blank, Ledger};
 
+/// How many keys 16 bits make.
+const KEYS: usize = 65_536;
+
 /// The events, each under the key that it was given, with what each has counted, and the meters of the processors.
 /// Contracts see four finite maps by key, the entries, the accounts, the standings and the ways, and two lists by
 /// processor, the clocks and the totals. There is room for 4,352 events: 256 originals and 4,096 copies.
@@ -74,13 +77,18 @@ fn idle_meters(alloc: Global, cpus: u8) -> Result<Vec<Meter>, NoMemory>
 }
 
 impl EventTable {
-    /// No events, and so many processors that never worked. It fails only where memory runs out.
+    /// No events, and so many processors that never worked. It fails only where memory runs out, or where the allocator
+    /// gives room for more events than keys of 16 bits can name.
     pub fn new(alloc: Global, cpus: u8) -> Result<EventTable, NoMemory>
         ensures { IfOk result (λ t. t ≡ no_columns cpus) }
     {
+        let events = Slab::with_capacity(alloc, 4352)?;
+        if events.capacity() > KEYS {
+            return Err(NoMemory);
+        }
         Ok(EventTable {
             alloc,
-            events: Slab::with_capacity(alloc, 4352)?,
+            events,
             meters: idle_meters(alloc, cpus)?,
             idle: Meter::new(),
             samplers: Samplers::new(),
@@ -91,7 +99,7 @@ impl EventTable {
     pub fn contains(&self, key: Key) -> bool
         ensures { result ≡ is_there self.now key }
     {
-        self.events.contains(key.0)
+        self.events.contains(key.0 as usize)
     }
 
     fn event(&self, key: Key) -> &Event
@@ -100,7 +108,7 @@ impl EventTable {
         ensures standing { result.now.standing ≡ standing_in self.now key }
         ensures way { way_of result.now.tally ≡ way_in self.now key }
     {
-        &self.events[key.0]
+        &self.events[key.0 as usize]
     }
 
     /// The instance of an event.
@@ -179,7 +187,7 @@ impl EventTable {
         requires { is_there self.now key ≡ true }
         ensures { result ≡ (account_in self.now key).sums }
     {
-        let event = &self.events[key.0];
+        let event = &self.events[key.0 as usize];
         event.sums(meter_of(&self.meters, &self.idle, event.cpu()))
     }
 
@@ -207,7 +215,7 @@ impl EventTable {
         ensures added { self.new ≡ put_row result (fresh_row (leader_entry result instance context pinned)) self.old }
     {
         self.samplers.add(&instance, context);
-        let key = Key(self.events.vacant_key());
+        let key = Key((self.events.vacant_key() % KEYS) as u16);
         let event = Event::leader_of_one(self.alloc, key, instance, context, pinned);
         self.events.insert_reserved(event);
         key
@@ -228,7 +236,7 @@ impl EventTable {
     {
         self.samplers.add(&instance, context);
         let event = Event::new(self.alloc, instance, context, leader, pinned);
-        Key(self.events.insert_reserved(event))
+        Key(self.events.insert_reserved(event) as u16)
     }
 
     /// An event goes.
@@ -236,7 +244,7 @@ impl EventTable {
         requires { is_there self.old key ≡ true }
         ensures { self.new ≡ taken key self.old }
     {
-        let event = self.events.remove(key.0);
+        let event = self.events.remove(key.0 as usize);
         self.samplers.remove(event.instance(), event.context());
     }
 
@@ -245,7 +253,7 @@ impl EventTable {
         requires { is_there self.old key ≡ true }
         ensures { self.new ≡ put_instance key (λ i. record i { own = own }) self.old }
     {
-        self.events[key.0].set_own(own);
+        self.events[key.0 as usize].set_own(own);
     }
 
     /// Sets the ring of an event, and whether it has it by a mapping of its own.
@@ -253,7 +261,7 @@ impl EventTable {
         requires { is_there self.old key ≡ true }
         ensures { self.new ≡ put_instance key (λ i. record i { ring = Some ring; mapped = owner }) self.old }
     {
-        self.events[key.0].set_ring(ring, owner);
+        self.events[key.0 as usize].set_ring(ring, owner);
     }
 
     /// Sets the period of an event that samples, which begins whole.
@@ -264,7 +272,7 @@ impl EventTable {
         ensures { self.new ≡ put_account key (record (account_in self.old key) { left = period })
             (put_instance key (λ i. record i { attr = record i.attr { period = period } }) self.old) }
     {
-        self.events[key.0].set_period(period);
+        self.events[key.0 as usize].set_period(period);
     }
 
     /// Sets where the group that an event leads stands.
@@ -272,7 +280,7 @@ impl EventTable {
         requires { is_there self.old key ≡ true }
         ensures { self.new ≡ put_standing key standing self.old }
     {
-        self.events[key.0].set_standing(standing);
+        self.events[key.0 as usize].set_standing(standing);
     }
 
     /// Adds occurrences of an event whose count goes along no total: it samples, or it is not on, or work lines do not
@@ -285,7 +293,7 @@ impl EventTable {
         ensures overflows { result ≡ overflows n (entry_in self.old key).instance.attr.period (account_in self.old key).left }
         ensures step { steps.new ≡ steps.old + 1 }
     {
-        self.events[key.0].hit(n, steps)
+        self.events[key.0 as usize].hit(n, steps)
     }
 
     /// The account of an event goes another way from here on. What it has counted stays.
@@ -294,7 +302,7 @@ impl EventTable {
         requires on_is_ready { way.on ≡ true → way.ready ≡ true }
         ensures { self.new ≡ put_way key way self.old }
     {
-        let event = &mut self.events[key.0];
+        let event = &mut self.events[key.0 as usize];
         let from = meter_of(&self.meters, &self.idle, event.cpu());
         let to = meter_of(&self.meters, &self.idle, way.cpu);
         event.turn::<Brand>(from, to, way, Blank::new(1));
@@ -319,7 +327,7 @@ impl EventTable {
         requires { is_there self.old key ≡ true }
         ensures { self.new ≡ put_account key (without_count (account_in self.old key)) self.old }
     {
-        let event = &mut self.events[key.0];
+        let event = &mut self.events[key.0 as usize];
         let meter = meter_of(&self.meters, &self.idle, event.cpu());
         event.reset::<Brand>(meter, Blank::new(1));
     }
@@ -330,7 +338,7 @@ impl EventTable {
         requires room { length (entry_in self.old leader).members < 8 }
         ensures { self.new ≡ put_entry leader (record (entry_in self.old leader) { members = (entry_in self.old leader).members ++ member ∷ [] }) self.old }
     {
-        self.events[leader.0].push_member(member);
+        self.events[leader.0 as usize].push_member(member);
     }
 
     /// Takes a member out of the group that an event leads.
@@ -338,7 +346,7 @@ impl EventTable {
         requires { is_there self.old leader ≡ true }
         ensures { self.new ≡ put_entry leader (record (entry_in self.old leader) { members = all_but member (entry_in self.old leader).members }) self.old }
     {
-        self.events[leader.0].remove_member(member);
+        self.events[leader.0 as usize].remove_member(member);
     }
 
     /// Makes a sibling the leader of a group of its own, which stands Out and among the flexible ones.
@@ -346,6 +354,6 @@ impl EventTable {
         requires { is_there self.old key ≡ true }
         ensures { self.new ≡ put_standing key standing.Out (put_entry key (freed_entry key (entry_in self.old key)) self.old) }
     {
-        self.events[key.0].free(key);
+        self.events[key.0 as usize].free(key);
     }
 }
