@@ -218,7 +218,8 @@ impl World {
         }
     }
 
-    /// The ring that an instance's records go to: none exactly where its original has none.
+    /// The ring that an instance's records go to: none exactly where its original has none. A reader for callers: no
+    /// line asks for it.
     pub fn ring_of(&self, key: Key) -> Option<RingNo>
         requires { is_live self.now key ≡ true }
         ensures { result ≡ ring_of (stage_of self.now) (instance_at self.now key).event }
@@ -227,7 +228,8 @@ impl World {
         self.events.instance(origin).ring
     }
 
-    /// The copy of an instance's family with the next greater id: none exactly where there is none.
+    /// The copy of an instance's family with the next greater id: none exactly where there is none. A reader for
+    /// callers: no line asks for it.
     pub fn next_copy(&self, key: Key) -> Option<Key>
         requires { is_live self.now key ≡ true }
         ensures next { result ≡ find (λ k. nat_lt (instance_at self.now key).id (instance_at self.now k).id)
