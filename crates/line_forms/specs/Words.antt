@@ -1,6 +1,6 @@
 -- inner
 -- Reading the words of a line from the left: what each step gives. This project's own profile.
-use Rattle.std.specs.Prelude.{ℕ, ◌+◌, not, ◌==◌, nat_lt, nat_eq, List, [], ◌∷◌, length, take, drop, Option, Some, None, if◌then◌else◌}
+use Rattle.std.specs.Prelude.{ℕ, Bool, false, ◌+◌, not, ◌==◌, nat_lt, nat_eq, List, [], ◌∷◌, length, take, drop, Option, Some, None, if◌then◌else◌}
 use Rattle.std.specs.List.{starts_with, prefix_len}
 use Rattle.script_spec.specs.Lines.{pieces}
 use Rattle.line_forms.specs.declared.words.Words.{Words}
@@ -36,6 +36,11 @@ next_of (word ∷ words) = Some (word, words)
 abbrev pub end_of : List (List ℕ) → Option (Unit {0})
 end_of [] = Some tt
 end_of (word ∷ words) = None
+
+-- whether the text that is left begins with a literal; where there is none it does not
+abbrev pub begins : Option (List ℕ) → List ℕ → Bool
+begins None literal = false
+begins (Some text) literal = starts_with nat_eq text literal
 
 -- the bytes behind a literal in the first word
 abbrev pub behind : List ℕ → List (List ℕ) → Option (List ℕ)

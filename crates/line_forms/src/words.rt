@@ -1,11 +1,11 @@
 //! The words of a line, from the left.
 
-ghost use Rattle.std.specs.Prelude.{◌≡◌, ◌≤◌, not, ◌==◌, length, false, IsTrue, IfSome, None};
+ghost use Rattle.std.specs.Prelude.{◌≡◌, ◌≤◌, not, ◌==◌, if◌then◌else◌, length, false, IsTrue, IfSome, None};
 ghost use Rattle.std.specs.List.{prefix_len};
 ghost use Rattle.std.specs.Option.{option_map};
 ghost use Rattle.script_spec.specs.Lines.{pieces};
 ghost use Rattle.line_forms.specs.Words as says;
-ghost use Rattle.line_forms.specs.Words.{left, next_of, end_of, strip, behind, pieces_behind};
+ghost use Rattle.line_forms.specs.Words.{left, next_of, end_of, strip, behind, begins, pieces_behind};
 
 /// Whether a byte of a kind first stands third: most words of an order are of two bytes.
 fn is_third(text: &[u8], by: u8) -> bool
@@ -83,7 +83,8 @@ impl<'a> Words<'a> {
 
     /// The text that is left, where a byte of this kind parts its words. None also stands for no text.
     pub fn parted_by(self, by: u8) -> Option<&'a [u8]>
-        ensures { IfSome result (λ text. left self.entry ≡ pieces by text.now) }
+        ensures words { IfSome result (λ text. left self.entry ≡ pieces by text.now) }
+        ensures rest { result ≡ (if self.entry.by == by then self.entry.rest else None) }
     {
         if self.by == by { self.rest } else { None }
     }
@@ -97,7 +98,8 @@ impl<'a> Words<'a> {
 
     /// Whether the first word may begin with a literal. Where the rest does not, the word does not.
     pub fn may_begin(self, literal: &[u8]) -> bool
-        ensures { result ≡ false → behind literal.now (left self.entry) ≡ None }
+        ensures word { result ≡ false → behind literal.now (left self.entry) ≡ None }
+        ensures rest { result ≡ begins (option_map (λ text. text.now) self.entry.rest) literal.now }
     {
         match self.rest {
             None => false,
