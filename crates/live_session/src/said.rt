@@ -6,9 +6,8 @@ ghost use Rattle.report_spec.specs.Report.{answer_text};
 ghost use Rattle.live_session.specs.Texts.{first_word, said_text};
 
 use crate::status::put_texts;
-use buffered_sink::Written;
 use perf_base::{Reply, SReason};
-use perf_io::{Failed, Sink, write_all};
+use perf_io::{Failed, Sink, Written, write_all};
 use report::put_reply;
 
 /// What a line is answered: its call's reply, the first reason for which it is no line that can be given, or that no

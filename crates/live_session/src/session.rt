@@ -11,10 +11,9 @@ ghost use Rattle.live_session.specs.Texts.{said_text};
 use crate::live_machine::LiveMachine;
 use crate::said::Said;
 use crate::status::Status;
-use buffered_sink::write_buffered;
 use line_input::{HeadStop, Input, LineEnd, LineRoom};
 use perf_base::SReason;
-use perf_io::{Failed, Sink, Source};
+use perf_io::{Failed, Sink, Source, write_buffered};
 use std::alloc::Global;
 
 /// Whether a turn answered a line, or there was none any more.

@@ -4,7 +4,7 @@ use Rattle.std.proofs.{Common.{arith, sym, ap, subst, ◌∙◌, append_assoc, a
 use Rattle.perf_base.specs.declared.{acts.Act.{Act}, numbers.RingNo.{RingNo}}
 use Rattle.perf_base.specs.declared.acts.Act.TheVariants as act
 use Rattle.stage_spec.specs.Order.{last_seen}
-use Rattle.run_laws.{specs.Growing.{AreBelow, AreLooks}, proofs.Shapes.{below-more, looks-more, unseen-looks}}
+use Rattle.ring_laws.{specs.Growing.{AreBelow, AreLooks}, proofs.Shapes.{below-more, looks-more, unseen-looks}}
 
 abbrev pub no_ring : RingNo × ℕ
 no_ring = (record { 0 = 0 }, 0)

@@ -14,8 +14,7 @@ use Rattle.machine.specs.Readers.{AreBehind, AreReaders, HasMet, IsBehind, out_o
 use Rattle.run_end.specs.Ended.{words_of_slot}
 use Rattle.run_end.specs.Ended.{words_in}
 use Rattle.machine.proofs.{History.{history-grows}, Behind.{MeetsEnd, MeetsReader, place-of-nth}, Pairs.{paired-set}, Places.{set-here, set-other}}
-use Rattle.ring_laws.proofs.Tails.{seen_tail}
-use Rattle.run_laws.{specs.Growing.{AreLooks}, proofs.Taken.{few-taken-of}}
+use Rattle.ring_laws.{specs.Growing.{AreLooks}, proofs.{Tails.{seen_tail}, Taken.{few-taken-of}}}
 use Rattle.perf_book.{specs.Ending.{AreParts}, proofs.Looked.{IsNext, Looked, Rising, no_ring}}
 
 -- The readers have taken and released the same, ring by ring.

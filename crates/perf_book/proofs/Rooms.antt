@@ -10,8 +10,8 @@ use Rattle.stage_spec.specs.{Order.{IsCounted, done_by_cpu, done_by_tool, is_of_
 use Rattle.stage_spec.specs.History.{CpuStep, ToolStep}
 use Rattle.machine.{specs.Leading.{Kept, HasLine, LeadTo, act_of, done_by, next_step}, proofs.Answers.{answers-look, no-answers}}
 use Rattle.report_spec.specs.Answers.{lost_in}
-use Rattle.run_laws.{specs.Growing.{AreLooks, does_line, is_cpu_act, is_look}, proofs.Lines.{counted-cpus, counted-lines, lengths, looks-do-nothing}}
-use Rattle.run_laws.proofs.Rings.{few-rings}
+use Rattle.ring_laws.{specs.Growing.{AreLooks, does_line, is_cpu_act, is_look}, proofs.Lines.{counted-cpus, counted-lines, lengths, looks-do-nothing}}
+use Rattle.ring_laws.proofs.Rings.{few-rings}
 use Rattle.perf_book.specs.Book.{AreLooksOf, Booked, IsBooked, HasRoomFor, MayAct, loads_by}
 use Rattle.stage_laws.proofs.Counts.{count-append}
 

@@ -4,7 +4,7 @@ use Rattle.perf_base.specs.{declared.acts.{Act.{Act}, Actor.{Actor}}, Scripts.{S
 use Rattle.perf_base.specs.declared.acts.Act.TheVariants as act
 use Rattle.perf_base.specs.declared.acts.Actor.TheVariants as actor
 use Rattle.machine.specs.Leading.{Kept, HasLine, act_of}
-use Rattle.run_laws.proofs.Shapes.{shaped-cpu, shaped-tool}
+use Rattle.ring_laws.proofs.Shapes.{shaped-cpu, shaped-tool}
 use Rattle.perf_book.specs.{Book.{AreLooksOf}, Running.{IsUnderWay}}
 
 -- by what an actor sees, and its line

@@ -8,7 +8,7 @@ use Rattle.user_page.specs.{declared.look.Look.{Look}, Looks.{MayFollow}}
 use Rattle.machine.specs.Leading.{Kept, HasLine, act_of}
 use Rattle.stage_spec.specs.{Stage.{is_open}, Tables.{family_if_open, family_in, stage_in}}
 use Rattle.report_spec.specs.{Published.{look_after, look_of, looks_if, publishes, published_looks}, Laws.{FollowsLaw, OneMoreLaw, RingsLaw}}
-use Rattle.run_laws.specs.Growing.{AreLooks, does_line}
+use Rattle.ring_laws.specs.Growing.{AreLooks, does_line}
 use Rattle.perf_book.specs.{Book.{AreLooksOf}, Watching.{HasPublished, IsBehind, page_of, watched_by}, declared.publishing.Publisher.{Publisher}}
 
 -- a line publishes where the event is open after it

@@ -8,7 +8,7 @@ use Rattle.perf_base.specs.declared.acts.Act.TheVariants as act
 use Rattle.perf_base.specs.declared.acts.Actor.TheVariants as actor
 use Rattle.machine.specs.Leading.{Kept, LeadTo}
 use Rattle.report_spec.specs.Answers.{IsAnswered}
-use Rattle.run_laws.specs.Growing.{AreLooks, is_cpu_act, is_look}
+use Rattle.ring_laws.specs.Growing.{AreLooks, is_cpu_act, is_look}
 
 -- the script, the machine, the order, and the answer to each line that was done, with its actor and its number among
 -- that actor's lines, from 0

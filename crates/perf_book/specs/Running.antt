@@ -4,7 +4,7 @@ use Rattle.std.specs.Prelude.{◌≡◌, ◌+◌, ◌*◌, ◌≤◌, All, List,
 use Rattle.perf_base.specs.{declared.{acts.Act.{Act}, lines.ReaderLine.{ReaderLine}, numbers.RingNo.{RingNo}}, Scripts.{Scripted}, Weight.{weight}}
 use Rattle.sample_ring.specs.{InEnds.{InEnd}, RingLists.{HasRing, InList, RingList, ring_index}}
 use Rattle.report_spec.specs.Answers.{IsRunShaped, reader_of}
-use Rattle.run_laws.specs.Growing.{EndsWithLine}
+use Rattle.ring_laws.specs.Growing.{EndsWithLine}
 use Rattle.stage_spec.specs.Order.{IsComplete}
 use Rattle.work_account.specs.Ends.{AreTogether}
 use Rattle.machine.specs.Readers.{AreReaders}

@@ -5,7 +5,7 @@ use mathlib.Core.List.{IsPrefix}
 use Rattle.perf_base.specs.{declared.{acts.Act.{Act}, numbers.EventNo.{EventNo}}, Scripts.{Scripted}}
 use Rattle.user_page.specs.{declared.look.Look.{Look}, Looks.{PageName, WatcherEnd, last_look}}
 use Rattle.report_spec.specs.Published.{published_looks}
-use Rattle.run_laws.specs.Growing.{does_line}
+use Rattle.ring_laws.specs.Growing.{does_line}
 use Rattle.perf_book.specs.declared.publishing.Publisher.{Publisher}
 
 -- the page on which a run is published and the event whose sums are, if there is one, and the page alone

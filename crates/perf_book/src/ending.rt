@@ -18,7 +18,7 @@ ghost use Rattle.machine.specs.Leading.{IsOf, LeadTo};
 ghost use Rattle.machine.specs.Readers.{AreBehind, AreReaders, HasItsReader, HasMet, IsShown, out_of, records_taken, released_in};
 ghost use Rattle.run_end.specs.Ended.{words_in};
 ghost use Rattle.perf_book.specs.Ending.{AreParts, IsEnd};
-ghost use Rattle.run_laws.specs.Growing.{AreLooks};
+ghost use Rattle.ring_laws.specs.Growing.{AreLooks};
 
 use crate::book::Book;
 use machine::Machine;

@@ -10,7 +10,7 @@ ghost use Rattle.work_account.specs.Ends.{AreTogether};
 ghost use Rattle.machine.specs.Leading.{LeadTo};
 ghost use Rattle.machine.specs.Readers.{loads_of};
 ghost use Rattle.perf_book.specs.Book.{AreLooksOf, loads_by};
-ghost use Rattle.run_laws.specs.Growing.{AreLooks};
+ghost use Rattle.ring_laws.specs.Growing.{AreLooks};
 
 use machine::Machine;
 use perf_base::{Act, Actor, RingNo, Script};

@@ -4,7 +4,7 @@ ghost use Rattle.std.specs.Prelude.{◌≡◌, ◌*◌, ◌<◌, ◌≤◌, All,
 ghost use mathlib.Core.List.{IsPrefix};
 ghost use Rattle.perf_base.specs.Weight.{weight};
 ghost use Rattle.report_spec.specs.Answers.{IsRunShaped};
-ghost use Rattle.run_laws.specs.Growing.{EndsWithLine};
+ghost use Rattle.ring_laws.specs.Growing.{EndsWithLine};
 ghost use Rattle.stage_spec.specs.Order.{IsComplete};
 ghost use Rattle.work_account.specs.Ends.{AreTogether};
 ghost use Rattle.machine.specs.Leading.{HasLine};

@@ -6,7 +6,7 @@ ghost use Rattle.perf_base.specs.Weight.{weight};
 ghost use Rattle.user_page.specs.Looks.{zero_look};
 ghost use Rattle.report_spec.specs.Answers.{IsRunShaped};
 ghost use Rattle.report_spec.specs.Published.{published_looks};
-ghost use Rattle.run_laws.specs.Growing.{EndsWithLine};
+ghost use Rattle.ring_laws.specs.Growing.{EndsWithLine};
 ghost use Rattle.stage_spec.specs.Order.{IsComplete};
 ghost use Rattle.work_account.specs.Ends.{AreTogether};
 ghost use Rattle.machine.specs.Readers.{AreReaders};

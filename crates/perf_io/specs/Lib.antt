@@ -4,3 +4,4 @@ pub mod Counts
 pub mod MemSource
 pub mod MemSink
 pub mod Wrote
+pub mod Rooms

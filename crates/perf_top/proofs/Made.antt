@@ -8,7 +8,7 @@ use Rattle.report.specs.{Told.{AreTold, rings_of}, Summary.{summary_text, totals
 use Rattle.report.proofs.MadeOrder.{complete_law, no_look_law, order_length}
 use Rattle.run_end.specs.Ended.{Ran}
 use Rattle.perf_book.specs.Ending.{IsEnd}
-use Rattle.make_spec.{specs.Rounds.{script_of_rounds}, proofs.{Sound.{covered_law}, Weights.{weight_law}}}
+use Rattle.work_maker.{specs.Rounds.{script_of_rounds}, proofs.{Sound.{covered_law}, Weights.{weight_law}}}
 use Rattle.perf_top.{specs.Outcome.{HasBadLook, IsSummary}, proofs.Told.{are-told}}
 
 -- what a run of a made script asks for

@@ -7,7 +7,7 @@ use Rattle.sample_ring.specs.{InEnds.{InEnd}, RingLists.{InList, ring_index}}
 use Rattle.stage_spec.specs.Order.{last_seen}
 use Rattle.machine.specs.Readers.{records_taken, records_of_slot, released_in, released_of_slot}
 use Rattle.report_spec.specs.Answers.{AreReadersParts, IsNoLook, IsRunShaped, reader_of, taken_of}
-use Rattle.run_laws.proofs.Taken.{never-seen}
+use Rattle.ring_laws.proofs.Taken.{never-seen}
 use Rattle.perf_book.specs.{Ending.{AreParts}, Running.{IsRead, IsReadBy}}
 
 -- no reader has taken or released anything

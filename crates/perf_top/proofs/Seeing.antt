@@ -6,7 +6,7 @@ use mathlib.Core.List.{IsPrefix}
 use Rattle.perf_base.specs.{declared.{acts.Act.{Act}, numbers.EventNo.{EventNo}}, Scripts.{Scripted}}
 use Rattle.user_page.specs.{declared.look.Look.{Look}, Looks.{last_look}}
 use Rattle.report_spec.specs.{Laws.{RingsLaw}, Published.{published_looks}}
-use Rattle.run_laws.specs.Growing.{AreLooks}
+use Rattle.ring_laws.specs.Growing.{AreLooks}
 use Rattle.perf_book.{specs.Watching.{IsSeenOf}, proofs.Watching.{rings-add}}
 
 no-more : (rest : List Look) → length rest ≡ 0 → rest ≡ []

@@ -9,7 +9,7 @@ use Rattle.stage_spec.specs.Order.{IsComplete, IsLawfulSeen, last_seen}
 use Rattle.ring_spec.specs.{Account.{head_of}, Rings.{IsLawfulOrder, account_in, bytes_of, sizes_in}}
 use Rattle.script_spec.specs.{Printing.{printed}, Texts.{StandsFor}}
 use Rattle.report_spec.specs.{Answers.{AreReadersParts, IsAnswered, IsRunShaped}, Published.{IsWatched}, Report.{report, rings_after}}
-use Rattle.make_spec.specs.Rounds.{script_of_rounds}
+use Rattle.work_maker.specs.Rounds.{script_of_rounds}
 use Rattle.report.specs.Summary.{summary_text, totals_of}
 use Rattle.stat_rows.specs.Rows.{rows_of}
 use Rattle.stat_table.specs.Table.{table_text}

@@ -6,7 +6,7 @@ ghost use Rattle.perf_base.specs.Weight.{weight};
 ghost use Rattle.script_spec.specs.Texts.{StandsFor};
 ghost use Rattle.stage_spec.specs.Order.{IsComplete};
 ghost use Rattle.ring_spec.specs.Rings.{IsLawfulOrder};
-ghost use Rattle.make_spec.specs.Rounds.{script_of_rounds};
+ghost use Rattle.work_maker.specs.Rounds.{script_of_rounds};
 ghost use Rattle.stat_rows.specs.Rows.{rows_of};
 ghost use Rattle.perf_ask.specs.Asking.{DoesOrder, ReadsScript};
 ghost use Rattle.perf_ask.specs.Reading.{Gave, IsRefusal};

@@ -3,9 +3,8 @@
 ghost use Rattle.std.specs.Prelude.{◌≡◌, ◌↔◌, ◌-◌, ◌≤◌, [], ◌++◌, IsTrue, length};
 ghost use Rattle.perf_io.specs.Outside.{no_flushes};
 
-use buffered_sink::Written;
 use perf_base::ShortList;
-use perf_io::{Failed, Sink, write_all};
+use perf_io::{Failed, Sink, Written, write_all};
 use std::marker::Model;
 
 /// How many bytes a line has room for.

@@ -1,17 +1,16 @@
 //! The script of a number of rounds, and its summary or its text.
 
 ghost use Rattle.std.specs.Prelude.{◌≡◌, ◌≤◌, IfOk};
-ghost use Rattle.make_spec.specs.Rounds.{script_of_rounds};
+ghost use Rattle.work_maker.specs.Rounds.{script_of_rounds};
 ghost use Rattle.report.specs.Summary.{summary_text};
 ghost use Rattle.perf_book.specs.Ending.{IsEnd};
 ghost use Rattle.perf_top.specs.Outcome.{IsEnding, IsSummary};
 
 use crate::ready::Ready;
 use crate::run::send;
-use buffered_sink::Written;
 use perf_ask::{Asked, Rounds, Status};
 use perf_base::{NoMemory, Script};
-use perf_io::{Failed, Sink};
+use perf_io::{Failed, Sink, Written};
 use report::{Summary, summary_of, write_summary};
 use run_end::Ended;
 use script_print::print_script;
@@ -115,7 +114,7 @@ impl ScriptText {
 }
 
 impl Written for ScriptText {
-    ghost use Rattle.make_spec.specs.Rounds.{script_of_rounds};
+    ghost use Rattle.work_maker.specs.Rounds.{script_of_rounds};
     ghost use Rattle.script_spec.specs.Printing.{printed};
 
     ghost text = { λ t. printed (script_of_rounds t.rounds) };

@@ -6,10 +6,9 @@ ghost use Rattle.perf_io.specs.Wrote.{Wrote, WroteFront};
 ghost use Rattle.report_spec.specs.Published.{final_line, look_text, watch_line};
 ghost use Rattle.perf_top.specs.Outcome.{IsFlushed, IsFlushedOnce};
 
-use buffered_sink::{Written, write_buffered};
 use perf_ask::Status;
 use perf_base::EventNo;
-use perf_io::{Failed, Sink, write_all, write_numbered};
+use perf_io::{Failed, Sink, Written, write_all, write_buffered, write_numbered};
 use report::write_report;
 use run_end::Ended;
 use user_page::Look;

@@ -4,10 +4,9 @@ ghost use Rattle.std.specs.Prelude.{◌≡◌, ◌<◌, ◌≤◌, ◌^◌, [], 
 ghost use Rattle.ring_spec.specs.Rings.{IsLawfulOrder};
 ghost use Rattle.stat_rows.specs.Rows.{rows_of};
 
-use buffered_sink::Written;
 use perf_base::NoMemory;
 use perf_book::Book;
-use perf_io::{Failed, Sink};
+use perf_io::{Failed, Sink, Written};
 use stat_rows::fill_rows;
 use stat_table::{StatRow, write_table};
 use std::alloc::Global;

@@ -6,8 +6,8 @@ use Rattle.std.proofs.lemmas.{List.{Folds.{sum_by-replicate}, Sums.{sum_by-appen
 use Rattle.perf_base.specs.{declared.{acts.Act.{Act}, lines.{CpuLine.{CpuLine}, ToolLine.{ToolLine}}}, Scripts.{lines_of_cpu, lines_of_tool}}
 use Rattle.perf_base.specs.declared.acts.Act.TheVariants as act
 use Rattle.stage_spec.specs.Order.{done_by_cpu, done_by_tool, is_of_cpu, is_of_tool}
-use Rattle.make_spec.{specs.Rounds.{all_processors, for_each_all, made_order, script_of_rounds}, proofs.ForEach.{all_for_each_all, length_of_fours}}
-use Rattle.make_spec.proofs.Lines.{processor_length}
+use Rattle.work_maker.{specs.Rounds.{all_processors, for_each_all, made_order, script_of_rounds}, proofs.ForEach.{all_for_each_all, length_of_fours}}
+use Rattle.work_maker.proofs.MadeLines.{processor_length}
 use Rattle.report.specs.Laws.{MadeHasNoLookLaw, MadeIsCompleteLaw}
 
 -- the act of the one tool

@@ -5,7 +5,7 @@ use Rattle.perf_base.specs.declared.{numbers.RingNo.{RingNo}, reply.Answer.{Answ
 use Rattle.perf_base.specs.declared.acts.Act.TheVariants as act
 use Rattle.ring_spec.specs.Account.{Account}
 use Rattle.stage_spec.specs.Order.{IsComplete}
-use Rattle.make_spec.specs.Rounds.{script_of_rounds}
+use Rattle.work_maker.specs.Rounds.{script_of_rounds}
 use Rattle.report.specs.Summary.{totals_of}
 
 -- whatever was answered and written, they have sixteen lines a round, and the tool's 36

@@ -1,9 +1,14 @@
 pub mod Clocks
 pub mod Families
 pub mod Few
+pub mod Lines
 pub mod Losses
 pub mod Orders
 pub mod Reached
+pub mod Rings
 pub mod Sampling
+pub mod Shapes
 pub mod Small
 pub mod Tails
+pub mod Taken
+pub mod Worked

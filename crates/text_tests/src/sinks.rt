@@ -5,8 +5,7 @@ ghost use Rattle.perf_io.specs.Wrote.{Wrote};
 
 use crate::checks::{check, check_eq};
 use crate::streams::sink_failing;
-use buffered_sink::{Written, write_buffered};
-use perf_io::{Failed, Sink, write_all};
+use perf_io::{Failed, Sink, Written, write_all, write_buffered};
 use std::alloc::{AllocError, Global};
 use std::test::Fail;
 

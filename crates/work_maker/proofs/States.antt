@@ -6,8 +6,8 @@ use Rattle.std.specs.List.{range_with_len}
 use Rattle.perf_base.specs.declared.{numbers.CpuNo.{CpuNo}, lines.{CpuLine.{CpuLine}, ToolLine.{ToolLine}}, acts.Act.{Act}}
 use Rattle.perf_base.specs.Scripts.{Scripted, IsAct, line_count, with_task, with_ring, with_reader, with_cpu_line, with_tool_line}
 use Rattle.perf_base.specs.declared.acts.Act.TheVariants as act
-use Rattle.make_spec.specs.Rounds.{for_each, for_each_all, made_task, made_ring, made_reader, round_lines, processor_lines}
-use Rattle.make_spec.proofs.{ForEach.{for_each-more, for_each_all-more}, Lines.{processor_length}}
+use Rattle.work_maker.specs.Rounds.{for_each, for_each_all, made_task, made_ring, made_reader, round_lines, processor_lines}
+use Rattle.work_maker.proofs.{ForEach.{for_each-more, for_each_all-more}, MadeLines.{processor_length}}
 use Rattle.work_maker.specs.Building.{with_cpu_lines, with_first_tool_lines, with_acts, declared, so_far, rounds_below}
 
 more_at : {X : Type 0} (lists : List (List X)) (i : ℕ) (xs : List X) (x : X) → i < length lists

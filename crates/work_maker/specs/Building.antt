@@ -4,7 +4,7 @@
 use Rattle.std.specs.Prelude.{ℕ, ◌+◌, List, [], ◌∷◌, ◌++◌, slice_set, replicate, nat_lt, if◌then◌else◌}
 use Rattle.perf_base.specs.declared.{numbers.CpuNo.{CpuNo}, lines.{CpuLine.{CpuLine}, ToolLine.{ToolLine}}, acts.Act.{Act}}
 use Rattle.perf_base.specs.Scripts.{Scripted, empty_script, lines_of_cpu, lines_of_tool}
-use Rattle.make_spec.specs.Rounds.{made_pmus, made_kinds, for_each, made_task, made_ring, made_reader, processor_lines}
+use Rattle.work_maker.specs.Rounds.{made_pmus, made_kinds, for_each, made_task, made_ring, made_reader, processor_lines}
 
 -- a script with several lines or acts more
 abbrev pub with_cpu_lines : Scripted → CpuNo → List CpuLine → Scripted

@@ -1,1 +1,3 @@
 pub mod Building
+pub mod Laws
+pub mod Rounds

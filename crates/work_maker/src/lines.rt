@@ -1,7 +1,7 @@
 //! The lines of the script of N rounds.
 
 ghost use Rattle.std.specs.Prelude.{◌≡◌, ◌<◌, ◌≤◌};
-ghost use Rattle.make_spec.specs.Rounds as says;
+ghost use Rattle.work_maker.specs.Rounds as says;
 
 use perf_base::{
     Attr, AttrFlags, CpuLine, CpuNo, CpuSel, EventNo, Kind, Mode, RingNo, TaskNo, TaskSel,

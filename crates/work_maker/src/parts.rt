@@ -2,8 +2,8 @@
 
 ghost use Rattle.std.specs.Prelude.{◌≡◌, ◌+◌, ◌<◌, ◌≤◌, [], ◌++◌, length, All, OnOk, IfOk};
 ghost use Rattle.perf_base.specs.Scripts.{IsCpuLine, IsToolLine, IsAct, empty_script, line_count};
-ghost use Rattle.make_spec.specs.Rounds as says;
-ghost use Rattle.make_spec.specs.Rounds.{for_each_all, script_of_rounds, first_lines, last_lines, made_order};
+ghost use Rattle.work_maker.specs.Rounds as says;
+ghost use Rattle.work_maker.specs.Rounds.{for_each_all, script_of_rounds, first_lines, last_lines, made_order};
 ghost use Rattle.work_maker.specs.Building.{with_cpu_lines, with_first_tool_lines, with_acts, declared, so_far, rounds_below};
 
 use crate::lines::{counting_lines, round_lines, sampling_lines};
@@ -148,7 +148,7 @@ fn add_rounds(script: &mut Script, rounds: u32) -> Result<(), NoMemory>
 }
 
 /// Adds the order.
-#[tactic(auto, unfolding(make_spec::specs::Rounds::script_of_rounds))]
+#[tactic(auto, unfolding(crate::specs::Rounds::script_of_rounds))]
 fn add_order(script: &mut Script, rounds: u32) -> Result<(), NoMemory>
     requires rounds { (1 ≤ rounds) × (rounds ≤ 1000) }
     requires before { script.old ≡ so_far (λ p. rounds) (first_lines ++ last_lines) [] }

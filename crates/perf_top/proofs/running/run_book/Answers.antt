@@ -3,7 +3,7 @@ use Rattle.perf_base.specs.{declared.numbers.RingNo.{RingNo}, Scripts.{Scripted}
 use Rattle.machine.proofs.Behind.{following-readers}
 use Rattle.perf_book.specs.{Book.{Booked}, Running.{IsRead}}
 use Rattle.report_spec.specs.Answers.{IsRunShaped}
-use Rattle.run_laws.proofs.{Lines.{complete-looks}, Shapes.{shaped-looks}}
+use Rattle.ring_laws.proofs.{Lines.{complete-looks}, Shapes.{shaped-looks}}
 use Rattle.stage_spec.specs.Order.{IsComplete}
 use Rattle.perf_top.proofs.Parts.{readers-parts}
 use Rattle.perf_top.proofs.running.run_book.Goals as goal

@@ -4,7 +4,7 @@ use Rattle.user_page.specs.{declared.look.Look.{Look}, Looks.{last_look}}
 use Rattle.machine.proofs.Behind.{following-readers}
 use Rattle.perf_book.specs.{Book.{Booked}, Running.{IsRead}}
 use Rattle.report_spec.specs.Answers.{IsRunShaped}
-use Rattle.run_laws.proofs.{Lines.{complete-looks}, Shapes.{shaped-looks}}
+use Rattle.ring_laws.proofs.{Lines.{complete-looks}, Shapes.{shaped-looks}}
 use Rattle.stage_spec.specs.Order.{IsComplete}
 use Rattle.perf_top.proofs.{Parts.{readers-parts}, Seeing.{published-after, seen-in}}
 use Rattle.perf_top.proofs.watching.watch_book.Goals as goal

@@ -1,4 +1,4 @@
-use Rattle.make_spec.proofs.Sound.{line_law}
+use Rattle.work_maker.proofs.Sound.{line_law}
 use Rattle.report.proofs.laws.made_totals.Goals as goal
 
 pub returns : goal.returns

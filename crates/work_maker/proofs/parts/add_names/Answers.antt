@@ -1,8 +1,8 @@
 use Rattle.std.proofs.Common.{◌≡◌, ℕ, ◌+◌, ◌<◌, All, sym, ap, subst, arith, ◌∙◌}
 use Rattle.perf_base.specs.declared.{numbers.{RingNo.{RingNo}, TaskNo.{TaskNo}}, lines.ReaderLine.{ReaderLine}}
 use Rattle.perf_base.specs.Scripts.{IsReaderLine, with_task, with_reader}
-use Rattle.make_spec.{specs.Rounds.{made_task, made_ring, made_reader}, proofs.ForEach.{all_for_each, for_each-more}}
-use Rattle.make_spec.proofs.Lines.{ring_fits, reader_fits}
+use Rattle.work_maker.{specs.Rounds.{made_task, made_ring, made_reader}, proofs.ForEach.{all_for_each, for_each-more}}
+use Rattle.work_maker.proofs.MadeLines.{ring_fits, reader_fits}
 use Rattle.work_maker.{specs.Building.{declared}, proofs.States.{two_added, declared-more}}
 use Rattle.work_maker.proofs.parts.add_names.Goals as goal
 

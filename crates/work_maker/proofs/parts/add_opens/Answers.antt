@@ -1,6 +1,6 @@
 use Rattle.std.proofs.Common.{[], ◌++◌, length, All, sym, ap, subst, arith, ◌∙◌}
 use Rattle.perf_base.specs.Scripts.{IsToolLine, line_count}
-use Rattle.make_spec.{specs.Rounds.{for_each, for_each_all, made_ring, sampling_lines, counting_lines}, proofs.Lines.{sampling_fits}}
+use Rattle.work_maker.{specs.Rounds.{for_each, for_each_all, made_ring, sampling_lines, counting_lines}, proofs.MadeLines.{sampling_fits}}
 use Rattle.work_maker.{specs.Building.{with_first_tool_lines, so_far}, proofs.States.{so_far-count, few_lines, tool_lists-more}}
 use Rattle.work_maker.proofs.parts.add_opens.Goals as goal
 

@@ -1,6 +1,6 @@
 use Rattle.std.proofs.{Common.{◌≡◌, [], ◌++◌, ap, arith, ◌∙◌}, lemmas.List.FromFn.{length-map-range_with_len}}
 use Rattle.perf_base.specs.Scripts.{line_count, with_tool_line}
-use Rattle.make_spec.specs.Rounds.{for_each, first_lines, read_line}
+use Rattle.work_maker.specs.Rounds.{for_each, first_lines, read_line}
 use Rattle.work_maker.{specs.Building.{so_far}, proofs.States.{so_far-count, tool_each-more}}
 use Rattle.work_maker.proofs.parts.add_reads.Goals as goal
 

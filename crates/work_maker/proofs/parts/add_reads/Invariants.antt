@@ -1,5 +1,5 @@
 use Rattle.std.proofs.Common.{◌≡◌, [], ◌++◌}
-use Rattle.make_spec.specs.Rounds.{for_each, first_lines, read_line}
+use Rattle.work_maker.specs.Rounds.{for_each, first_lines, read_line}
 use Rattle.work_maker.specs.Building.{so_far}
 use Rattle.work_maker.proofs.parts.add_reads.Given as goal
 

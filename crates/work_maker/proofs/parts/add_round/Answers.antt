@@ -1,6 +1,6 @@
 use Rattle.std.proofs.Common.{[], ◌++◌, length, ap, arith, ◌∙◌}
 use Rattle.perf_base.specs.Scripts.{line_count}
-use Rattle.make_spec.specs.Rounds.{first_lines, last_lines}
+use Rattle.work_maker.specs.Rounds.{first_lines, last_lines}
 use Rattle.work_maker.{specs.Building.{with_cpu_lines, so_far, rounds_below}, proofs.States.{so_far-count, rounds_few, round_more}}
 use Rattle.work_maker.proofs.parts.add_round.Goals as goal
 

@@ -1,5 +1,5 @@
 use Rattle.std.proofs.Common.{◌≡◌, [], ◌++◌}
-use Rattle.make_spec.specs.Rounds.{first_lines, last_lines}
+use Rattle.work_maker.specs.Rounds.{first_lines, last_lines}
 use Rattle.work_maker.specs.Building.{so_far, rounds_below}
 use Rattle.work_maker.proofs.parts.add_round.Given as goal
 

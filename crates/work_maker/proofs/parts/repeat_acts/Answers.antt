@@ -1,6 +1,6 @@
 use Rattle.std.proofs.{Common.{◌≡◌, All, sym, ap, subst, arith, ◌∙◌}, lemmas.List.Elements.{All-weaker}}
 use Rattle.perf_base.specs.Scripts.{IsAct}
-use Rattle.make_spec.{specs.Rounds.{for_each_all}, proofs.ForEach.{for_each_all-more}}
+use Rattle.work_maker.{specs.Rounds.{for_each_all}, proofs.ForEach.{for_each_all-more}}
 use Rattle.work_maker.{specs.Building.{with_acts}, proofs.States.{acts-none, acts-more, IsAct-acts}}
 use Rattle.work_maker.proofs.parts.repeat_acts.Goals as goal
 

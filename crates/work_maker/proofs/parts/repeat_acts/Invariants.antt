@@ -1,5 +1,5 @@
 use Rattle.std.proofs.Common.{◌≡◌}
-use Rattle.make_spec.specs.Rounds.{for_each_all}
+use Rattle.work_maker.specs.Rounds.{for_each_all}
 use Rattle.work_maker.specs.Building.{with_acts}
 use Rattle.work_maker.proofs.parts.repeat_acts.Given as goal
 

@@ -4,7 +4,7 @@ use Rattle.stage_spec.specs.Replies.{AnswerOrder}
 use Rattle.run_end.specs.Ended.{Ran}
 use Rattle.machine.specs.Readers.{AreBehind, AreReaders}
 use Rattle.report_spec.specs.Answers.{lost_in}
-use Rattle.run_laws.specs.Growing.{AreLooks}
+use Rattle.ring_laws.specs.Growing.{AreLooks}
 use Rattle.perf_book.{specs.{Book.{Booked}, Ending.{IsEnd}}, proofs.{Rooms.{looks-answered, room-before}, Taken.{all-taken}}}
 use Rattle.perf_book.proofs.book.Book.finish.Goals as goal
 

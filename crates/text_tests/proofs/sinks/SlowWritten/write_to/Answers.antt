@@ -1,6 +1,5 @@
 use Rattle.std.proofs.Common.{◌≤◌, ◌∙◌, drop, arith}
-use Rattle.perf_io.proofs.Wrote.{wrote_then, wrote_exit, wrote_text}
-use Rattle.buffered_sink.proofs.Pieces.{front_and_piece, front_piece_rest}
+use Rattle.perf_io.proofs.{Wrote.{wrote_then, wrote_exit, wrote_text}, Pieces.{front_and_piece, front_piece_rest}}
 use Rattle.text_tests.proofs.sinks.SlowWritten.write_to.Goals as goal
 
 pub returns-in_err-write_all-clause-wrote : goal.returns-in_err-write_all-clause-wrote

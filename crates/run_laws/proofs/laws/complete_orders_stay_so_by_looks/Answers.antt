@@ -1,5 +1,0 @@
-use Rattle.run_laws.proofs.Lines.{complete-looks}
-use Rattle.run_laws.proofs.laws.complete_orders_stay_so_by_looks.Goals as goal
-
-pub returns : goal.returns
-returns c = complete-looks

@@ -1,5 +1,0 @@
-use Rattle.run_laws.proofs.Lines.{looks-give-no-line}
-use Rattle.run_laws.proofs.laws.looks_have_no_answers.Goals as goal
-
-pub returns : goal.returns
-returns c = looks-give-no-line
