@@ -18,9 +18,9 @@ ghost use Rattle.machine.specs.Readers.{AreFollowing, loads_of};
 ghost use Rattle.machine.specs.Stepping.{HasNoLine, IsUnlawful, LeavesReaders, NamesRing};
 ghost use Rattle.perf_book.specs.Book.{AreLooksOf, Booked, HasRoomFor, IsBooked, MayAct, loads_by};
 ghost use Rattle.perf_book.specs.Keeping.{KeepsAnswer, next_line};
-ghost use Rattle.perf_book.specs.Sheets.{MayBring, sheet_after};
+ghost use Rattle.perf_book.specs.Sheets.{MayBring, goes_by_plan, sheet_after};
 
-use crate::doing::{do_line, keep, line_of, prepare_next};
+use crate::doing::{do_line, goes_by_plan, keep, line_of, prepare_next};
 use crate::looking::look_before;
 use crate::making::count_acts;
 use cpu_sched::Sheet;
@@ -134,6 +134,13 @@ impl Book {
         ensures sound { IsBooked self.now }
     {
         self.machine.has_line(&self.script, actor)
+    }
+
+    /// Whether an actor's next line may go by a plan: it is a processor's, and not work.
+    pub(crate) fn goes_by_plan(&self, actor: Actor) -> bool
+        ensures { result ≡ goes_by_plan (next_step self.now.script self.now.machine actor) }
+    {
+        goes_by_plan(&self.machine, &self.script, actor)
     }
 
     /// What an actor does that has a line left. A processor first loads the tail of each ring once, by rising number,

@@ -1,6 +1,6 @@
 //! Lines and acts, with their answers.
 
-ghost use Rattle.std.specs.Prelude.{◌≡◌, ◌<◌, ◌≤◌, List, [], ◌∷◌, ◌++◌, Some, vec_capacity, vec_len};
+ghost use Rattle.std.specs.Prelude.{◌≡◌, ◌<◌, ◌≤◌, true, false, List, [], ◌∷◌, ◌++◌, Some, None, vec_capacity, vec_len};
 ghost use Rattle.perf_base.specs.declared.acts.Act.{Act as ActNo};
 ghost use Rattle.perf_base.specs.Scripts.{IsCovered, Scripted};
 ghost use Rattle.perf_base.specs.Weight.{weight};
@@ -12,11 +12,11 @@ ghost use Rattle.machine.specs.Leading.{HasLine, IsOf, LeadTo, act_of, done_by, 
 ghost use Rattle.machine.specs.Readers.{loads_of};
 ghost use Rattle.report_spec.specs.Answers.{lost_in};
 ghost use Rattle.perf_book.specs.Keeping.{KeepsAnswer, kept, line_in, next_line};
-ghost use Rattle.perf_book.specs.Sheets.{IsReady, sheet_after};
+ghost use Rattle.perf_book.specs.Sheets.{IsReady, goes_by_plan, sheet_after};
 
 use cpu_sched::Sheet;
 use machine::Machine;
-use perf_base::{Act, Actor, Answer, Reply, RingNo, Script, Steps, StoredReply};
+use perf_base::{Act, Actor, Answer, CpuLine, Reply, RingNo, Script, Steps, StoredReply};
 use sample_ring::Rings;
 use std::sync::ledger::Ledger;
 
@@ -85,15 +85,37 @@ pub fn prepare_next(machine: &Machine, script: &Script, actor: Actor, sheet: &mu
     }
 }
 
-/// Plans a sheet that is not blank, so that it is ready for the next line of its processor.
-pub fn plan_next<L: Ledger>(sheet: &mut Sheet, tests: &mut Steps<L>)
-    ensures brief { sheet.new.brief ≡ sheet.old.brief }
+/// Whether an actor's next line may go by a plan: it is a processor's, and not work, which tests no counter in any case.
+pub fn goes_by_plan(machine: &Machine, script: &Script, actor: Actor) -> bool
+    ensures { result ≡ goes_by_plan (next_step script.now machine.now actor) }
+{
+    script.use_invariant();
+    if !machine.has_line(script, actor) {
+        return false;
+    }
+    match actor {
+        Actor::Processor(cpu) => {
+            let line = &script.cpu_lines(cpu)[machine.done(actor) as usize];
+            !matches!(line, CpuLine::Work(_))
+        }
+        Actor::Tool(_) | Actor::Reader(_) | Actor::Watcher => false,
+    }
+}
+
+/// Makes a sheet ready for the next line of its actor: its brief is planned where the line may go by a plan, and else
+/// the sheet is made blank.
+pub fn make_ready<L: Ledger>(sheet: &mut Sheet, by_plan: bool, tests: &mut Steps<L>)
+    ensures brief { by_plan ≡ true → sheet.new.brief ≡ sheet.old.brief }
+    ensures blank { by_plan ≡ false → sheet.new.brief ≡ None }
     ensures ready { IsReady sheet.new }
 {
-    if sheet.blank() {
+    if !by_plan {
+        sheet.clear();
         return;
     }
-    sheet.plan(tests);
+    if !sheet.blank() {
+        sheet.plan(tests);
+    }
 }
 
 /// Whose line an act does next, and the line's number. A look at a ring does none.

@@ -2,10 +2,10 @@
 
 ghost use Rattle.std.specs.Prelude.{◌≡◌, ◌↔◌, IfSome, IsTrue, [], ◌∷◌, ◌++◌, List};
 ghost use Rattle.perf_base.specs.declared.acts.Act.{Act};
-ghost use Rattle.machine.specs.Leading.{HasLine, act_of};
+ghost use Rattle.machine.specs.Leading.{HasLine, act_of, next_step};
 ghost use Rattle.perf_book.specs.Book.{AreLooksOf, IsBooked};
 ghost use Rattle.perf_book.specs.Running.{IsUnderWay};
-ghost use Rattle.perf_book.specs.Sheets.{IsReady};
+ghost use Rattle.perf_book.specs.Sheets.{IsReady, goes_by_plan};
 ghost use Rattle.perf_book.specs.Watching.{HasPublished, page_of, watched_by};
 ghost use Rattle.work_account.specs.Ends.{AreTogether};
 
@@ -155,7 +155,14 @@ impl<J: Naming> Named<J> {
         page.publish(&self.book, &mut self.publisher);
     }
 
-    /// Does the next line of an actor, where it has one left.
+    /// Whether an actor's next line may go by a plan: it is a processor's, and not work.
+    pub fn goes_by_plan(&self, actor: Actor) -> bool
+        ensures { result ≡ goes_by_plan (next_step self.now.script self.now.machine actor) }
+    {
+        self.book.goes_by_plan(actor)
+    }
+
+    /// Does the next line of an actor, where it has one left. It answers whether the line after it may go by a plan.
     pub fn advance_if<P: Publishing, L: Ledger>(
         &mut self,
         rings: &Rings,
@@ -163,10 +170,11 @@ impl<J: Naming> Named<J> {
         actor: Actor,
         sheet: &mut Sheet,
         tests: &mut Steps<L>,
-    )
+    ) -> bool
         requires rings { rings.now ≡ J.rings }
         requires page { P.page page.now ≡ page_of J.watched }
         requires sheet { IsReady sheet.old }
+        ensures plan { result ≡ goes_by_plan (next_step self.new.script self.new.machine actor) }
         ensures line { HasLine self.old.script self.old.machine actor → (looks : List Act) × AreLooksOf actor self.old.order looks
             × (self.new.order ≡ self.old.order ++ (looks ++ act_of actor ∷ [])) }
         ensures none { (HasLine self.old.script self.old.machine actor → ⊥) → self.new ≡ self.old }
@@ -174,5 +182,6 @@ impl<J: Naming> Named<J> {
         if self.has_line(actor) {
             self.advance(rings, page, actor, sheet, tests);
         }
+        self.goes_by_plan(actor)
     }
 }

@@ -16,7 +16,7 @@ ghost use Rattle.perf_book.specs.Sheets.{IsReady};
 ghost use Rattle.perf_book.specs.Watching.{HasPublished, page_of, watched_by};
 
 use crate::book::Book;
-use crate::doing::plan_next;
+use crate::doing::make_ready;
 use crate::gate::Gate;
 use crate::named::{Named, Naming};
 use crate::publishing::{Nowhere, Publisher, Publishing};
@@ -85,7 +85,7 @@ fn do_rest_of<J: Naming, P: Publishing, L: Ledger>(
 {
     while book.has_line(actor) {
         book.advance(rings, page, actor, sheet, tests);
-        plan_next(sheet, tests);
+        make_ready(sheet, book.goes_by_plan(actor), tests);
     }
 }
 

@@ -9,7 +9,7 @@ ghost use Rattle.perf_book.specs.Running.{AreReady, HasRead, IsReadBy, slot_of};
 ghost use Rattle.perf_book.specs.Sheets.{IsReady};
 ghost use Rattle.perf_book.specs.Watching.{page_of};
 
-use crate::doing::plan_next;
+use crate::doing::make_ready;
 use crate::gate::Gate;
 use crate::named::{Named, Naming};
 use crate::publishing::Publishing;
@@ -43,7 +43,8 @@ pub struct Worker {
     pub sheet: Sheet,
 }
 
-/// The lines of a worker. The lock is held in a line alone: the next one is planned without it.
+/// The lines of a worker. The lock is held in a line alone: the next one is planned without it, where it may go by a
+/// plan.
 fn act<J: Naming, R: Wait, P: Publishing, G: Gate, L: Ledger>(
     rt: &R,
     shared: &Mutex<Named<J>>,
@@ -68,10 +69,10 @@ fn act<J: Naming, R: Wait, P: Publishing, G: Gate, L: Ledger>(
     } = worker;
     for line in 0..lines {
         gate.before(actor, line);
-        shared
+        let by_plan = shared
             .lock(rt)
             .advance_if(rings, page, actor, &mut sheet, &mut tests);
-        plan_next(&mut sheet, &mut tests);
+        make_ready(&mut sheet, by_plan, &mut tests);
     }
 }
 
