@@ -1,6 +1,6 @@
 //! The book.
 
-ghost use Rattle.std.specs.Prelude.{◌≡◌, ℕ, ◌+◌, ◌*◌, ◌<◌, ◌≤◌, ◌↔◌, IsTrue, List, [], ◌∷◌, ◌++◌, Err, IfOk, OnErr, OnOk, Some, length, map, vec_capacity};
+ghost use Rattle.std.specs.Prelude.{◌≡◌, ℕ, ◌+◌, ◌*◌, ◌<◌, ◌≤◌, ◌↔◌, true, false, IsTrue, List, [], ◌∷◌, ◌++◌, Err, IfOk, OnErr, OnOk, Some, length, map, vec_capacity};
 ghost use Rattle.perf_base.specs.declared.acts.Act.{Act as ActNo};
 ghost use Rattle.perf_base.specs.declared.numbers.RingNo.{RingNo as Ring};
 ghost use Rattle.perf_base.specs.Scripts.{IsCovered};
@@ -143,6 +143,63 @@ impl Book {
         goes_by_plan(&self.machine, &self.script, actor)
     }
 
+    /// Puts the brief that a processor's next line leads to into its sheet, or makes it blank where there is none. A
+    /// tool's sheet stays.
+    fn prepare(&self, actor: Actor, sheet: &mut Sheet)
+        ensures { sheet.new ≡ sheet_after self.now.script self.now.machine actor sheet.old }
+    {
+        prepare_next(&self.machine, &self.script, actor, sheet);
+    }
+
+    /// Prepares the sheet where the actor's next line may go by a plan; else the sheet stays.
+    pub(crate) fn prepare_by_plan(&self, actor: Actor, sheet: &mut Sheet)
+        ensures plan { goes_by_plan (next_step self.now.script self.now.machine actor) ≡ true → sheet.new ≡ sheet_after self.now.script self.now.machine actor sheet.old }
+        ensures none { goes_by_plan (next_step self.now.script self.now.machine actor) ≡ false → sheet.new ≡ sheet.old }
+    {
+        if self.goes_by_plan(actor) {
+            self.prepare(actor, sheet);
+        }
+    }
+
+    /// What an actor does that has a line left, as `advance` does it, but for the sheet, which stays as it was brought.
+    pub(crate) fn do_next_line<L: Ledger>(
+        &mut self,
+        rings: &Rings,
+        actor: Actor,
+        sheet: &Sheet,
+        tests: &mut Steps<L>,
+    )
+        requires together { AreTogether rings.now self.old.machine.outs }
+        requires line { HasLine self.old.script self.old.machine actor }
+        ensures script { self.new.script ≡ self.old.script }
+        ensures order { (looks : List ActNo) × AreLooksOf actor self.old.order looks × (self.new.order ≡ self.old.order ++ (looks ++ act_of actor ∷ [])) }
+        ensures answer { KeepsAnswer (Some (actor, done_by actor self.old.machine)) self.old.machine self.new.machine self.old.answers self.new.answers }
+        ensures loads { loads_of self.new.machine.outs ≡ map (λ n. n + loads_by actor) (loads_of self.old.machine.outs) }
+        ensures together { AreTogether rings.now self.new.machine.outs }
+        ensures sound { IsBooked self.new }
+        ensures counted { (x : Step) → next_step self.old.script self.old.machine actor ≡ Some x
+            → IsCountedBy (Some sheet.now) x self.old.machine.world self.new.machine.world tests.old tests.new }
+        ensures work { (cpu : Cpu) (work : Stretch) → next_step self.old.script self.old.machine actor ≡ Some (CpuStep cpu (cpu_line.Work work)) → tests.new ≡ tests.old }
+    {
+        look_before(
+            &mut self.machine,
+            &self.script,
+            rings,
+            &mut self.order,
+            actor,
+        );
+        do_line(
+            &mut self.machine,
+            &self.script,
+            rings,
+            &mut self.order,
+            &mut self.answers,
+            actor,
+            sheet,
+            tests,
+        );
+    }
+
     /// What an actor does that has a line left. A processor first loads the tail of each ring once, by rising number,
     /// and keeps each that it saw further than the last look did as an act. Then the line is done, and kept as an act
     /// with its answer. A line that is refused leaves the machine's world as it was. It takes no memory.
@@ -172,24 +229,8 @@ impl Book {
         ensures work { (cpu : Cpu) (work : Stretch) → next_step self.old.script self.old.machine actor ≡ Some (CpuStep cpu (cpu_line.Work work)) → tests.new ≡ tests.old }
         ensures sheet { sheet.new ≡ sheet_after self.new.script self.new.machine actor sheet.old }
     {
-        look_before(
-            &mut self.machine,
-            &self.script,
-            rings,
-            &mut self.order,
-            actor,
-        );
-        do_line(
-            &mut self.machine,
-            &self.script,
-            rings,
-            &mut self.order,
-            &mut self.answers,
-            actor,
-            sheet,
-            tests,
-        );
-        prepare_next(&self.machine, &self.script, actor, sheet);
+        self.do_next_line(rings, actor, sheet, tests);
+        self.prepare(actor, sheet);
     }
 
     /// Does one act of a given order. A processor or a tool does its next line. A look at a ring, which is one of the

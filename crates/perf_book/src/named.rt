@@ -74,7 +74,7 @@ impl<J: Naming> Model for Named<J> {
 }
 
 /// Does the next line of an actor that has one left, in a book whose order is one that a run makes and ends with a
-/// line: so it is then.
+/// line: so it is then. Where the line after it may go by a plan, its brief is on the sheet then.
 pub fn advance_one<L: Ledger>(
     book: &mut Book,
     rings: &Rings,
@@ -92,7 +92,8 @@ pub fn advance_one<L: Ledger>(
     ensures under_way { IsUnderWay book.new.order }
     ensures sound { IsBooked book.new }
 {
-    book.advance(rings, actor, sheet, tests);
+    book.do_next_line(rings, actor, sheet, tests);
+    book.prepare_by_plan(actor, sheet);
 }
 
 impl<J: Naming> Named<J> {

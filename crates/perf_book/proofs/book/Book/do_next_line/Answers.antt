@@ -6,7 +6,7 @@ use Rattle.machine.specs.{Counted.{IsCountedBy}, Stepped.{StaysIfRefused}, Leadi
 use Rattle.machine.proofs.Counting.{work-free}
 use Rattle.perf_book.specs.Book.{AreLooksOf, Booked}
 use Rattle.perf_book.proofs.Rooms.{answered-looks, booked-then, done-after, line-after, looks-length, room-before, room-for-answer, room-for-line, step-after}
-use Rattle.perf_book.proofs.book.Book.advance.Goals as goal
+use Rattle.perf_book.proofs.book.Book.do_next_line.Goals as goal
 
 pub look_before-requires-clause-room : goal.look_before-requires-clause-room
 look_before-requires-clause-room g c =
@@ -88,9 +88,6 @@ returns-clause-answer g c =
           ∙ ap (λ (k : Booked). k.answers ++ record { actor = c.args.actor; number = done_by c.args.actor k.machine; reply = answer.0 } ∷ []) c.self.view_is),
       subst (λ w. StaysIfRefused w c.do_line.new.machine.world answer.0) world answer.2,
     )
-
-pub prepare_next-requires-clause-script : goal.prepare_next-requires-clause-script
-prepare_next-requires-clause-script g c = (c.do_line.new.order.items, c.do_line.ensures.led)
 
 pub returns-clause-counted : goal.returns-clause-counted
 returns-clause-counted g c = λ x is.
