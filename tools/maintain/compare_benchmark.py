@@ -2,7 +2,8 @@
 """Compares what two builds of the program cost, as those of two commits, and prints the ratios.
 
 Both are measured in turn, 15 times each. Processor time is the median; of memory the greatest peak counts. Beside a
-text that is read stands `wc -w` of it; `run` stands beside `replay` by the clock, and the smallest script beside true(1).
+text that is read stands `wc -w` of it; `run` stands beside the `replay` of the order that it printed, by the clock, and
+the smallest script beside true(1).
 
 Usage: compare_benchmark.py BEFORE AFTER
   BEFORE, AFTER  built programs, as crates/perf_run/out/perf_run; `rt run` in crates/perf_run leaves one there
@@ -16,9 +17,10 @@ from typing import NamedTuple
 import measuring
 import read_benchmark
 import replay_benchmark
-from perfscript import Draft, command
+from perfscript import Draft, Fault, command
 from perfscript.limits import MOST_BYTES, MOST_KINDS, MOST_LINES
 from perfscript.progress import each
+from run_then_replay import with_order, without_counters
 from start_benchmark import SMALLEST
 
 RUNS = 15
@@ -118,6 +120,19 @@ def in_turn(programs: Sequence[str], task: Task) -> list[Costs]:
     return [costs_of(of_one) for of_one in zip(*runs)]
 
 
+def by_threads(program: str, text: str) -> float:
+    """How much longer a run by threads takes than a replay of the order that it printed: the median of pairs, whose
+    reports have to be the same."""
+    ratios = []
+    for _ in range(RUNS):
+        run, report = measuring.printed(program, ["run"], text)
+        again, same = measuring.printed(program, ["replay"], with_order(text, report.split("\n")[0]))
+        if without_counters(report) != without_counters(same):
+            raise Fault("a run and the replay of its order report differently")
+        ratios.append(run.seconds / again.seconds)
+    return median(ratios)
+
+
 def row(task: Task, before: Costs, after: Costs) -> str:
     """What changed for a task."""
     times = f"{1000 * before.processor:7.2f} ms {1000 * after.processor:7.2f} ms {after.processor / before.processor:5.2f}"
@@ -140,7 +155,7 @@ def main(before: str, after: str) -> None:
         words = costs_of([measuring.cost("env", ["LC_ALL=C", "wc", "-w"], task.text) for _ in range(RUNS)])
         print(beside(f"{task.name}, beside `wc -w`", costs.processor / words.processor, "of processor time"))
     for at, name in ((1, "the script of 1,000 rounds"), (9, "200 events and ticks")):
-        print(beside(f"{name}, `run` beside `replay`", own[at].seconds / own[at - 1].seconds, "by the clock"))
+        print(beside(f"{name}, `run` beside `replay`", by_threads(after, every[at].text), "by the clock"))
     print(beside("200 counting events beside 1", own[7].processor / own[6].processor, "of processor time"))
     nothing = costs_of([measuring.cost("true", []) for _ in range(RUNS)])
     faults = f"of processor time; {own[10].faults:.0f} page faults, {nothing.faults:.0f}"

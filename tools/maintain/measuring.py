@@ -4,7 +4,7 @@ import subprocess
 import tempfile
 from collections.abc import Sequence
 from functools import cache
-from typing import NamedTuple
+from typing import IO, NamedTuple
 
 import preloaded
 from perfscript import Fault
@@ -31,13 +31,14 @@ def starter() -> str:
     return preloaded.compiled("starter", folder().name, "-D_GNU_SOURCE")
 
 
-def cost(program: str, words: Sequence[str], text: str = "", status: int = 0, note: str = "") -> Cost:
-    """What a run costs, which has to end with this status and this note."""
+def cost(program: str, words: Sequence[str], text: str = "", status: int = 0, note: str = "",
+         out: int | IO[str] = subprocess.DEVNULL) -> Cost:
+    """What a run costs that prints to `out`, and has to end with this status and this note."""
     with tempfile.TemporaryFile() as given, tempfile.TemporaryFile() as noted, tempfile.TemporaryFile("w+") as told:
         given.write(text.encode())
         given.seek(0)
         call = [starter(), str(told.fileno()), program, *words]
-        subprocess.run(call, stdin=given, stdout=subprocess.DEVNULL, stderr=noted, pass_fds=[told.fileno()])
+        subprocess.run(call, stdin=given, stdout=out, stderr=noted, pass_fds=[told.fileno()])
         noted.seek(0)
         told.seek(0)
         said, found = noted.read().decode(errors="replace").strip(), [int(number) for number in told.read().split()]
@@ -48,6 +49,14 @@ def cost(program: str, words: Sequence[str], text: str = "", status: int = 0, no
         was, wanted = (f"status {one}, {text or 'no note'}" for one, text in ((ended, said), (status, note)))
         raise Fault(f"{program} {' '.join(words)} ended with {was}; wanted: {wanted}")
     return Cost(took / 1e9, processor / 1e6, faults, peak * 1024)
+
+
+def printed(program: str, words: Sequence[str], text: str) -> tuple[Cost, str]:
+    """What a run costs that prints to a file, and what it prints."""
+    with tempfile.TemporaryFile("w+") as out:
+        taken = cost(program, words, text, out=out)
+        out.seek(0)
+        return taken, out.read()
 
 
 def best(count: int, program: str, words: Sequence[str], text: str = "", status: int = 0,
