@@ -45,9 +45,9 @@ impl Machine {
         take_all(rings.table(ring), self.outs.out(ring), ins.reader(ring));
     }
 
-    /// The reader of each ring takes all that is left there, and releases none of it. What was seen of the rings stays,
-    /// and so does the world. It takes no memory. Each reader has released just what stands before the last tail seen of
-    /// its ring, whatever it has taken, and has room for 9 words for each unit of the script's weight.
+    /// The reader of each ring takes all that is left there, and releases none of it. What was seen of the rings
+    /// stays, and so does the world. It takes no memory. Each reader has released just what stands before the last
+    /// tail seen of its ring, whatever it has taken, and has room for 9 words for each unit of the script's weight.
     pub fn take_rest(&mut self, script: &Script, rings: &Rings, ins: &mut Ins)
         requires covered { IsCovered script.now }
         requires script { IsOf script.now self.old }

@@ -90,16 +90,17 @@ impl Machine {
         }
     }
 
-    /// Does the actor's next line, with the records that it sends, then every rescheduling that it makes necessary, and
-    /// answers it. The script is the one that the machine was made for, of a weight of at most 65,536, and the rings
-    /// are those of its ends. No tail is loaded. A line that is refused leaves the world and the ends as they were.
-    /// One that changes nothing, as a switch to what runs already or what a tool asks, leaves the world, seats included.
+    /// Does the actor's next line, with the records that it sends, then every rescheduling that it makes necessary,
+    /// and answers it. The script is the one that the machine was made for, of a weight of at most 65,536, and the
+    /// rings are those of its ends. No tail is loaded. A line that is refused leaves the world and the ends as they
+    /// were. One that changes nothing, as a switch to what runs already or what a tool asks, leaves the world, seats
+    /// included.
     ///
     /// A sheet whose brief is planned, and is the processor's after the line's own change, is adopted where the line
     /// reschedules: the processor's seats are then those of the plan. With such a sheet no counter is tested. Else a
-    /// step of `tests` is one test of one counter for one event: for each processor that is rescheduled at least one for
-    /// each hardware event that is on afterwards, and at most 272 for each event that counters are tried for. Where none
-    /// is rescheduled, as by work, none is tested.
+    /// step of `tests` is one test of one counter for one event: for each processor that is rescheduled at least one
+    /// for each hardware event that is on afterwards, and at most 272 for each event that counters are tried for.
+    /// Where none is rescheduled, as by work, none is tested.
     pub fn line<L: Ledger>(
         &mut self,
         script: &Script,

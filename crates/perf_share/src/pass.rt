@@ -27,8 +27,8 @@ impl Model for Pass {
 }
 
 impl Pass {
-    /// A pass for another thread, which has seen the same and made no calls. It is the only one that is parted here: its
-    /// name tells from which pass, and how many were parted from that before.
+    /// A pass for another thread, which has seen the same and made no calls. It is the only one that is parted here:
+    /// its name tells from which pass, and how many were parted from that before.
     pub fn split(&mut self, share: &Share) -> Pass
         requires { BelongsTo self.old share.now }
         ensures parted { self.new ≡ having_parted self.old }

@@ -92,8 +92,8 @@ impl Share {
         self.share.look(&mut pass.pass)
     }
 
-    /// Ends the sharing, and gives the history, to which it adds nothing. Where a call is under way it gives all back, with the word that its
-    /// try found in the place of 0.
+    /// Ends the sharing, and gives the history, to which it adds nothing. Where a call is under way it gives all back,
+    /// with the word that its try found in the place of 0.
     pub fn close(self, pass: Pass) -> Result<History, (Share, Pass, u64)>
         requires { BelongsTo pass self }
         ensures { MatchResult result (IsClosed (AreLegal self.key) pass) (λ r. (r.0 ≡ self) × (r.1 ≡ record pass { found = pass.found ++ r.2 ∷ [] }) × (r.2 ≢ 0)) }

@@ -53,7 +53,7 @@ AreTurned t w = (k : Key) → contains_key w.entries k.0 ≡ true → IsTurned w
 abbrev pub AreClear : World → Type 0
 AreClear w = (e : EventNo) → is_used (stage_of w) e ≡ false → (slice_index_or w.folded e.0 no_sums ≡ no_sums) × (slice_index_or w.lost e.0 0 ≡ 0)
 
--- What a world's tables keep: what always holds of the world, the ways of its accounts, and that unused slots are clear.
+-- What a world's tables keep: what always holds of the world, the ways of its accounts, that unused slots are clear.
 pub record IsStored (t : Columns) (w : World) : Type 0 where
   pub kept : IsWorld w
   pub turned : AreTurned t w

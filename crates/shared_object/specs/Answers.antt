@@ -6,8 +6,8 @@ use Rattle.shared_object.specs.{Histories.{PassView, Closed, most_calls}, declar
 
 -- p is the pass before the call, which closes the object
 module _ {K C R : Type 0} (legal : List (C × R) → Type 0) (p : PassView K C R) where
-  -- What closing gives: the history begins with all that the pass had seen, and the pass has found the turn free, and is
-  -- else as it was: it made no call for it and parted none (this project's own profile).
+  -- What closing gives: the history begins with all that the pass had seen, and the pass has found the turn free, and
+  -- is else as it was: it made no call for it and parted none (this project's own profile).
   pub record IsClosed (closed : Closed K C R) : Type 0 where
     pub prefix : IsPrefix p.seen closed.calls
     pub legal_calls : legal closed.calls

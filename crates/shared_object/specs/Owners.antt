@@ -13,8 +13,8 @@ module _ {O K C R : Type 0} where
       (p : PassView K C R) → Contains passes p → (seat : ℕ) × (v : View K C R) × (get_elem? s.views seat ≡ some v) × (v.is_pass ≡ true) × (p ≡ pass_view id v)
 
 module _ {O K C R : Type 0} (after : K → O → List (C × R) → Type 0) (legal : K → List (C × R) → Type 0) where
-  -- Where some passes are all that there are, each call of the history is an own call of one of them: none was made by a
-  -- pass that was hidden (this project's own profile).
+  -- Where some passes are all that there are, each call of the history is an own call of one of them: none was made by
+  -- a pass that was hidden (this project's own profile).
   abbrev pub EachCallIsOwn : Type 0
   EachCallIsOwn =
       (key : K) (id : TableId) (s : State (Slot O C R) (View K C R)) (k : IsKept after legal key s) (passes : List (PassView K C R)) → ArePasses id s passes → AreAll passes

@@ -77,8 +77,8 @@ module _ {K C R : Type 0} where
     pub of_pass : owner.is_pass ≡ true
     pub own : Contains owner.own place
 
-  -- no two passes have one name; each was parted from one of them, but the first; and each of so many calls is one's own
-  -- (this project's own profile)
+  -- no two passes have one name; each was parted from one of them, but the first; and each of so many calls is one's
+  -- own (this project's own profile)
   pub record AreNamed (views : List (View K C R)) (count : ℕ) : Type 0 where
     pub apart : (i j : ℕ) (v w : View K C R) → i ≢ j → get_elem? views i ≡ some v → get_elem? views j ≡ some w → v.is_pass ≡ true → w.is_pass ≡ true → v.name ≢ w.name
     pub parts : (seat : ℕ) (v : View K C R) → get_elem? views seat ≡ some v → v.is_pass ≡ true → (v.name ≡ []) ⊎ IsPartIn views v

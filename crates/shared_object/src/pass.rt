@@ -30,8 +30,8 @@ impl<O: Sequential> Model for Pass<O> {
 }
 
 impl<O: Sequential> Pass<O> {
-    /// A pass for another thread, which has seen the same and made no calls. It is the only one that is parted here: its
-    /// name tells from which pass, and how many were parted from that before.
+    /// A pass for another thread, which has seen the same and made no calls. It is the only one that is parted here:
+    /// its name tells from which pass, and how many were parted from that before.
     pub fn split(&mut self, share: &Share<O>) -> Pass<O>
         requires { BelongsTo self.old share.now }
         ensures parted { self.new ≡ having_parted self.old }

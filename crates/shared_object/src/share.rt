@@ -103,8 +103,8 @@ impl<O: Sequential> Share<O> {
         load_count(&self.table.shared, &mut pass.seat)
     }
 
-    /// Ends the sharing, and gives the history, to which it adds nothing. Where a call is under way it gives all back, with the word that its
-    /// try found in the place of 0.
+    /// Ends the sharing, and gives the history, to which it adds nothing. Where a call is under way it gives all back,
+    /// with the word that its try found in the place of 0.
     pub fn close(self, pass: Pass<O>) -> Result<History<O>, (Share<O>, Pass<O>, u64)>
         requires { BelongsTo pass self }
         ensures { MatchResult result (IsClosed (O.legal self.key) pass) (λ r. (r.0 ≡ self) × (r.1 ≡ record pass { found = pass.found ++ r.2 ∷ [] }) × (r.2 ≢ 0)) }
