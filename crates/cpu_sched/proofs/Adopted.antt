@@ -5,14 +5,14 @@ use Rattle.std.proofs.lemmas.{Bool.{cases_Bool, false≢true}, List.{append-nil,
 use Rattle.std.proofs.lemmas.Simd.{map-map}
 use Rattle.perf_base.specs.declared.{numbers.{CpuNo.{CpuNo}, Key.{Key}}, standing.Standing.{Standing}}
 use Rattle.perf_base.specs.declared.standing.Standing.TheVariants as standing
-use Rattle.stage_spec.specs.{Stage.{Group}, Verdict.{Judged, standing_among}}
+use Rattle.stage_spec.specs.{Fits.{IsAssignment}, Tight.{masks_of}, Verdict.{Judged, verdicts, standing_among}}
 use Rattle.stage_laws.{specs.{Narrowing.{has_context}, Standings.{standings}}, proofs.Counts.{count-filter}}
 use Rattle.counter_match.specs.Seating.{empty_seating}
 use Rattle.world_spec.specs.{Changes.{with_seats}, Kept.{leads, post_at, IsKept}, Listings.{pass_leaders}, Rescheduled.{IsJudged}}
-use Rattle.world_spec.specs.{StageOf.{stage_of}, Value.{World, entry_at, is_live, standing_at, seats_at, is_key, times}}
+use Rattle.world_spec.specs.{StageOf.{group_at, stage_of}, Value.{World, entry_at, is_live, standing_at, seats_at, is_key, times}}
 use Rattle.world_spec.proofs.{Copies.{times-at}, GoneStage.{AreLeading}, Keys.{key-is, is_key-true, is_key-false, times-cons, once-true}}
 use Rattle.world_spec.proofs.{Listings.{reached_leaders, reached-once, reached-context, reached-leading}, Moving.{leads-parts}}
-use Rattle.world_spec.proofs.Rescheduling.{same-id}
+use Rattle.world_spec.proofs.{Rescheduling.{same-id, among-none, among-cons}, Standing.{standing_by, standing-is}}
 use Rattle.cpu_sched.specs.{Adopting.{with_standings, told_standings, out_standings}, Briefs.{present_brief}, Judging.{retold}}
 use Rattle.cpu_sched.{specs.Plans.{Planned, IsPlanOf}, proofs.Judged.{reached-there}}
 use Rattle.cpu_sched.proofs.{Relabelled.{id_at, eligible_leaders, present-leaders, present-seated, present-standings}, Telling.{stand_at}}
@@ -43,29 +43,15 @@ planned-live w cpu p kept is i d low =
     ) in
     (leads-parts (is_live w k) (is_key k (entry_at w k).leader) (reached-leading w.hardware w kept cpu k there)).0
 
--- a standing by a leader's id
-standing_by : List (ℕ × Standing) → ℕ → Standing
-standing_by [] id = standing.Out
-standing_by (x ∷ xs) id = elim (x.0 == id) [ true ↦ x.1 | false ↦ standing_by xs id ]
+-- the groups of some leaders with where they stand
+abbrev judged_one : World → Key × Standing → Judged
+judged_one w x = record { group = group_at w x.0; standing = x.1 }
 
-standing-is : (js : List Judged) (g : Group) → standing_among js g ≡ standing_by (map (λ j. (j.group.leader.id, j.standing)) js) g.leader.id
-unfolding standing_by
-standing-is [] g = refl
-standing-is (j ∷ js) g = ap {B = Standing} (λ x. elim (j.group.leader.id == g.leader.id) as (λ b. Standing) [ true ↦ j.standing | false ↦ x ]) (standing-is js g)
-
--- what a key was told last is its standing by its id
-by-id : (w : World) (k : Key) (x : Key × Standing) (xs : List (Key × Standing)) (b : Bool) → (id_at w x.0 == id_at w k) ≡ b
-    → standing_by (map (λ y. (id_at w y.0, y.1)) (x ∷ xs)) (id_at w k) ≡ cond b x.1 (standing_by (map (λ y. (id_at w y.0, y.1)) xs) (id_at w k))
-unfolding standing_by
-by-id w k x xs true e = grind (arith, id_at)
-by-id w k x xs false e = grind (arith, id_at)
+abbrev judged_at : World → List (Key × Standing) → List Judged
+judged_at w xs = map (judged_one w) xs
 
 apart-ids : (w : World) → IsKept w.hardware w → (q k : Key) → leads (post_at w) q ≡ true → leads (post_at w) k ≡ true → is_key k q ≡ false → (id_at w q == id_at w k) ≡ false
 apart-ids w kept q k lead_q lead_k off = grind (arith, id_at, is_key-false, same-id)
-
-none-by : (id : ℕ) → standing_by [] id ≡ standing.Out
-unfolding standing_by
-none-by id = refl
 
 last-next : (x : Key × Standing) (xs : List (Key × Standing)) (k : Key) (s : Standing) (b : Bool) → is_key k x.0 ≡ b → last_told (x ∷ xs) k s ≡ last_told xs k (cond b x.1 s)
 unfolding last_told
@@ -76,8 +62,8 @@ unfolding last_told
 last-empty k s = refl
 
 told-by-id : (w : World) → IsKept w.hardware w → (xs : List (Key × Standing)) → AreLeading w (map (λ x. x.0) xs) → ((q : Key) → times q (map (λ x. x.0) xs) ≤ 1)
-    → (k : Key) → leads (post_at w) k ≡ true → last_told xs k standing.Out ≡ standing_by (map (λ x. (id_at w x.0, x.1)) xs) (id_at w k)
-told-by-id w kept [] all once k lead = last-empty k standing.Out ∙ sym (none-by (id_at w k))
+    → (k : Key) → leads (post_at w) k ≡ true → last_told xs k standing.Out ≡ standing_among (judged_at w xs) (group_at w k)
+told-by-id w kept [] all once k lead = last-empty k standing.Out ∙ sym (among-none [] (group_at w k) refl)
 told-by-id w kept (x ∷ xs) all once k lead =
     let keys : List Key = map (λ y. y.0) xs in
     let own : is_key x.0 x.0 ≡ true = same_number x.0.0 x.0.0 refl in
@@ -87,11 +73,11 @@ told-by-id w kept (x ∷ xs) all once k lead =
           let same : x.0 ≡ k = key-is x.0 k (is_key-true k x.0 e) in
           let ids : (id_at w x.0 == id_at w k) ≡ true = same_number (id_at w x.0) (id_at w k) (ap (id_at w) same) in
           last-next x xs k standing.Out true e
-          ∙ (last-none xs k x.1 (omega (arith, once k, times-cons k x.0 keys, once-true (is_key k x.0) e)) ∙ sym (by-id w k x xs true ids))
+          ∙ (last-none xs k x.1 (omega (arith, once k, times-cons k x.0 keys, once-true (is_key k x.0) e)) ∙ sym (among-cons (judged_one w x) (judged_at w xs) (group_at w k) true ids))
       | inr e ↦
           last-next x xs k standing.Out false e
           ∙ (told-by-id w kept xs (λ q some. all q (omega (arith, some, times-cons q x.0 keys))) (λ q. omega (arith, once q, times-cons q x.0 keys)) k lead
-          ∙ sym (by-id w k x xs false (apart-ids w kept x.0 k lead_x lead e)))
+          ∙ sym (among-cons (judged_one w x) (judged_at w xs) (group_at w k) false (apart-ids w kept x.0 k lead_x lead e)))
     ]
 
 -- What is known of a world that took over a plan.
@@ -109,19 +95,31 @@ told-last : (w x : World) (cpu : CpuNo) (p : Planned) → TookOver w x cpu p →
 told-last w x cpu p h q = grind (arith, stand_at, told-at, reached_leaders, last_told)
 
 stands-by-plan : (w x : World) (cpu : CpuNo) (p : Planned) → TookOver w x cpu p → (q : Key) → leads (post_at w) q ≡ true → has_context (stage_of w) cpu (entry_at w q).context ≡ true
-    → standing_at x q ≡ standing_by (standings w.hardware (stage_of w) cpu) (id_at w q)
+    → standing_at x q ≡ standing_among (verdicts w.hardware (stage_of w) cpu) (group_at w q)
 stands-by-plan w x cpu p h q lead has =
     let there : 1 ≤ times q (reached_leaders w cpu) = reached-there w.hardware w cpu h.kept q lead has in
+    let same : map (λ j. (j.group.leader.id, j.standing)) (judged_at w p.standings) ≡ standings w.hardware (stage_of w) cpu =
+    map-map (λ (j : Judged). (j.group.leader.id, j.standing)) (judged_one w) p.standings
+    ∙ (ap (map (λ y. (id_at w y.0, y.1))) h.plan.standings ∙ sym (present-standings w cpu)) in
     told-last w x cpu p h q
     ∙ (ap (last_told p.standings q) (last-out (reached_leaders w cpu) q (standing_at w q) there)
     ∙ (told-by-id w h.kept p.standings (λ k some. reached-leading w.hardware w h.kept cpu k (omega (arith, some, few-keys w cpu p h.plan k)))
     (λ k. omega (arith, few-keys w cpu p h.plan k, reached-once w.hardware w h.kept cpu k)) q lead
-    ∙ ap (λ xs. standing_by xs (id_at w q)) (ap (map (λ y. (id_at w y.0, y.1))) h.plan.standings ∙ sym (present-standings w cpu))))
+    ∙ (standing-is (judged_at w p.standings) (group_at w q)
+    ∙ (ap (λ xs. standing_by xs (id_at w q)) same ∙ sym (standing-is (verdicts w.hardware (stage_of w) cpu) (group_at w q))))))
 
 pub adopted-judged : (w x : World) (cpu : CpuNo) (p : Planned) → TookOver w x cpu p → IsJudged w.hardware x cpu
 adopted-judged w x cpu p h =
+    let here : seats_at (retold cpu w x) cpu ≡ seats_at x cpu = get_or-set_same w.quiet.seats cpu.0 (seats_at x cpu) (empty_seating 0) h.low in
+    let within : cpu.0 < length x.quiet.seats = omega (arith, h.low, ap (λ (y : World). length y.quiet.seats) h.world, length-set w.quiet.seats cpu.0 (seats_at x cpu)) in
     let judged_now : IsJudged w.hardware (retold cpu w x) cpu =
-    grind (arith, stands-by-plan, standing-is, get_or-set_same, present-seated, length-set) in
+    record {
+      standings = stands-by-plan w x cpu p h;
+      served = record {
+        events = ap (λ s. s.events) here ∙ (ap (λ s. s.events) h.seats ∙ (h.plan.events ∙ sym (present-seated w cpu)));
+        assigned = subst (λ s. IsAssignment (masks_of s.events) s.seats) (sym here) (h.kept_now.seated.sound cpu within).assigned;
+      };
+    } in
     subst (λ y. IsJudged w.hardware y cpu) (sym h.world) judged_now
 
 -- standings of groups elsewhere stay

@@ -1,7 +1,7 @@
 -- A brief by its four passes.
-use Rattle.std.specs.Prelude.{◌≡◌, ℕ, ◌+◌, ◌≤◌, ◌==◌, All, List, [], ◌∷◌, ◌++◌, length, slice_index_or}
-use Rattle.std.proofs.{Common.{arith, refl, sym, ap, subst, ◌∙◌}, lemmas.Grind.{flat_map-append}}
-use Rattle.std.proofs.lemmas.List.{get_or_append_left, get_or-append-add, length-append}
+use Rattle.std.specs.Prelude.{◌≡◌, ℕ, zero, suc, ◌+◌, ◌<◌, ◌≤◌, ◌==◌, All, List, [], ◌∷◌, ◌++◌, length, flat_map, take, slice_index_or}
+use Rattle.std.proofs.{Common.{arith, refl, sym, ap, subst, ◌∙◌}, Math.Seq.{take-suc}, lemmas.Grind.{flat_map-append}}
+use Rattle.std.proofs.lemmas.List.{append-nil, get_or_append_left, get_or-append-add, length-append}
 use Rattle.perf_base.specs.declared.numbers.{EventNo.{EventNo}, Key.{Key}}
 use Rattle.stage_laws.{specs.Briefs.{GroupBrief}, proofs.Counts.{count-append}}
 use Rattle.cpu_sched.{specs.Briefs.{ProcessorBrief, events_in, IsGroupBrief, IsBrief}, proofs.Served.{slots}}
@@ -64,3 +64,32 @@ has-parts b p q r s h e1 e2 e3 e4 =
     let passes : b.passes ≡ p ∷ q ∷ r ∷ s ∷ [] = four-are b.passes h.four ∙ (λ i. sym e1 i ∷ sym e2 i ∷ sym e3 i ∷ sym e4 i ∷ []) in
     let is : b ≡ record { counters = b.counters; passes = p ∷ q ∷ r ∷ s ∷ [] } = λ i. record { counters = b.counters; passes = passes i } in
     subst (λ x. HasParts x p q r s) (sym is) (parts-of b.counters p q r s (subst IsBrief is h))
+
+-- the groups of some passes
+abbrev pub passed : List (List (GroupBrief Key)) → List (GroupBrief Key)
+passed ps = flat_map (λ pass. pass) ps
+
+pub pass-sound : (P : GroupBrief Key → Type 0) (ps : List (List (GroupBrief Key))) (pass : ℕ) → All P (passed ps) → All P (slice_index_or ps pass [])
+pass-sound P [] pass all = λ i g low. absurd (omega (arith, low))
+pass-sound P (p ∷ ps) zero all = all-left P p (passed ps) all
+pass-sound P (p ∷ ps) (suc pass) all = pass-sound P ps pass (all-right P p (passed ps) all)
+
+-- A size that adds up: those of the first passes, with the next one.
+abbrev AddsUp : (List (GroupBrief Key) → ℕ) → Type 0
+AddsUp size = (xs ys : List (GroupBrief Key)) → size (xs ++ ys) ≡ size xs + size ys
+
+pub size-next : (size : List (GroupBrief Key) → ℕ) → AddsUp size → (ps : List (List (GroupBrief Key))) (pass : ℕ) → pass < length ps
+    → size (passed (take (pass + 1) ps)) ≡ size (passed (take pass ps)) + size (slice_index_or ps pass [])
+size-next size adds ps pass low =
+    let one : pass + 1 ≡ suc pass = omega arith in
+    let p : List (GroupBrief Key) = slice_index_or ps pass [] in
+    ap (λ n. size (passed (take n ps))) one
+    ∙ (ap (λ qs. size (passed qs)) (take-suc ps pass [] low)
+    ∙ (ap size (flat_map-append (λ q. q) (take pass ps) (p ∷ []) ∙ ap (λ q. passed (take pass ps) ++ q) (append-nil p))
+    ∙ adds (passed (take pass ps)) p))
+
+pub size-within : (size : List (GroupBrief Key) → ℕ) → AddsUp size → (ps : List (List (GroupBrief Key))) (passes : ℕ) → size (passed (take passes ps)) ≤ size (passed ps)
+size-within size adds [] zero = omega arith
+size-within size adds [] (suc passes) = omega arith
+size-within size adds (p ∷ ps) zero = omega (arith, adds [] [])
+size-within size adds (p ∷ ps) (suc passes) = omega (arith, adds p (passed (take passes ps)), adds p (passed ps), size-within size adds ps passes)

@@ -1,6 +1,6 @@
 -- A plan that grows group by group has the verdicts of the brief.
-use Rattle.std.specs.{Prelude.{◌≡◌, ℕ, ◌+◌, Bool, not, ◌&&◌, List, [], ◌∷◌, ◌++◌, length, flat_map, None}, List.{fold}}
-use Rattle.std.proofs.{Common.{arith, refl, sym, ap, subst, ◌∙◌, append_assoc}, lemmas.{Grind.{flat_map-append}, List.{append-nil, map-append}}}
+use Rattle.std.specs.{Prelude.{◌≡◌, ℕ, suc, ◌+◌, ◌<◌, ◌≤◌, Bool, not, ◌&&◌, List, [], ◌∷◌, ◌++◌, length, flat_map, None, take, slice_index_or}, List.{fold}}
+use Rattle.std.proofs.{Common.{arith, refl, sym, ap, subst, ◌∙◌, append_assoc}, Math.Seq.{take-suc}, lemmas.{Grind.{flat_map-append}, List.{append-nil, map-append, take_all}}}
 use Rattle.std.proofs.lemmas.List.{Elements.{filter-append}, Sums.{sum_by-append}}
 use Rattle.perf_base.specs.{declared.{numbers.{EventNo.{EventNo}, Key.{Key}}, standing.Standing.{Standing}}, Standings.{stands_on}}
 use Rattle.perf_base.specs.declared.standing.Standing.TheVariants as standing
@@ -112,17 +112,29 @@ begins standings events so_far e1 e2 e3 = record {
   tried = refl;
 }
 
--- four passes are the whole
-abbrev pub after_four : (p q r s : List (GroupBrief Key)) → List (JudgedBrief Key)
-after_four p q r s = after_pass (after_pass (after_pass (after_pass [] p) q) r) s
-
-all-passes : (p q r s : List (GroupBrief Key)) → judge_brief_passes [] (p ∷ q ∷ r ∷ s ∷ []) ≡ after_four p q r s
+-- the verdicts of some passes, and of one more
+passes-push : (before : List (JudgedBrief Key)) (ps : List (List (GroupBrief Key))) (p : List (GroupBrief Key))
+    → judge_brief_passes before (ps ++ p ∷ []) ≡ after_pass (judge_brief_passes before ps) p
 unfolding judge_brief_passes
-all-passes p q r s = refl
+passes-push before [] p = refl
+passes-push before (q ∷ ps) p = passes-push (after_pass before q) ps p
 
-pub judged-all : (b : ProcessorBrief) (p q r s : List (GroupBrief Key)) → b.passes ≡ p ∷ q ∷ r ∷ s ∷ [] → judged_groups b ≡ after_four p q r s
-judged-all b p q r s passes = ap (judge_brief_passes []) passes ∙ all-passes p q r s
+abbrev pub first_judged : ProcessorBrief → ℕ → List (JudgedBrief Key)
+first_judged b passes = judge_brief_passes [] (take passes b.passes)
 
-pub plan-is : (b : ProcessorBrief) (p q r s : List (GroupBrief Key)) (standings : List (Key × Standing)) (seats : Seated) (so_far : SoFar) → b.passes ≡ p ∷ q ∷ r ∷ s ∷ []
-    → Begins (after_four p q r s) standings seats.events so_far → seats.counters ≡ b.counters → IsPlanOf b (record { standings = standings; seats = seats })
-plan-is b p q r s standings seats so_far passes h counters = grind (arith, append-nil, judged-all)
+pub judged-next : (b : ProcessorBrief) (pass : ℕ) → pass < length b.passes → first_judged b (pass + 1) ≡ after_pass (first_judged b pass) (slice_index_or b.passes pass [])
+judged-next b pass low =
+    let one : pass + 1 ≡ suc pass = omega arith in
+    ap (judge_brief_passes []) (ap (λ n. take n b.passes) one ∙ take-suc b.passes pass [] low) ∙ passes-push [] (take pass b.passes) (slice_index_or b.passes pass [])
+
+pub judged-none : (b : ProcessorBrief) → first_judged b 0 ≡ []
+unfolding judge_brief_passes
+judged-none b = refl
+
+-- all passes are the whole
+pub judged-all : (b : ProcessorBrief) (passes : ℕ) → length b.passes ≤ passes → first_judged b passes ≡ judged_groups b
+judged-all b passes past = ap (judge_brief_passes []) (take_all passes b.passes past)
+
+pub plan-is : (b : ProcessorBrief) (passes : ℕ) (standings : List (Key × Standing)) (seats : Seated) (so_far : SoFar) → length b.passes ≤ passes
+    → Begins (first_judged b passes) standings seats.events so_far → seats.counters ≡ b.counters → IsPlanOf b (record { standings = standings; seats = seats })
+plan-is b passes standings seats so_far past h counters = grind (arith, append-nil, judged-all)

@@ -1,13 +1,13 @@
 -- For how many events counters are tried, group by group, and so by the definitions' verdicts.
-use Rattle.std.specs.Prelude.{◌≡◌, ℕ, suc, ◌+◌, ◌<◌, ◌≤◌, Bool, true, false, cond, List, [], ◌∷◌, ◌++◌, length, map, filter, None, take, slice_index_or}
+use Rattle.std.specs.Prelude.{◌≡◌, ℕ, suc, ◌+◌, ◌<◌, ◌≤◌, Bool, true, false, cond, List, [], ◌∷◌, ◌++◌, length, map, filter, take, slice_index_or}
 use Rattle.std.{specs.{FinMap.{FinMap}, List.{fold, sum_by}, Ordering.{nat_cmp}}, proofs.Common.{arith, refl, sym, ap, subst, ◌∙◌, append_assoc}}
 use Rattle.std.proofs.{Math.Seq.{take-suc}, lemmas.List.{append-nil, length-map, Sums.{sum_by_push}}}
 use Rattle.perf_base.specs.declared.{numbers.{CpuNo.{CpuNo}, EventNo.{EventNo}, Key.{Key}}, standing.Standing.{Standing}}
 use Rattle.stage_spec.specs.{declared.instance.Instance.{Instance}, Hardware.{Hardware, mask_of}, Stage.{Group}}
 use Rattle.stage_spec.{specs.Verdict.{Judged, is_eligible, judge, judge_pass, judge_passes, with_masks}, proofs.Settling.{judged}}
-use Rattle.world_spec.specs.{Kept.{IsKept}, Listings.{pass_leaders}, StageOf.{group_at, stage_of}, Value.{World, seats_at, times}}
+use Rattle.world_spec.specs.{Kept.{IsKept}, Listings.{pass_leaders}, StageOf.{group_at, stage_of}, Value.{World, times}}
 use Rattle.world_spec.proofs.{GoneStage.{AreLeading}, Listings.{reached-once, reached-leading}}
-use Rattle.cpu_sched.specs.{declared.judging.SoFar.{SoFar}, Judging.{Tally, told_of, tell, tell_pass, tried_in, tried_passes, tally_in, retold}}
+use Rattle.cpu_sched.specs.Judging.{Tally, told_of, tell, tell_pass, tried_in, tried_passes, tally_none, restood}
 use Rattle.cpu_sched.{specs.Tried.{tries, tried}, proofs.Judged.{all-verdicts, none-told}}
 use Rattle.cpu_sched.proofs.Telling.{Stands, told-out, told-in, step, judge-next, judge-none, judges-next, judges-none, seam, first-of_all, next-fresh, next-some, fold-told, pass-over, told_all}
 
@@ -26,28 +26,26 @@ passes-push hw cpu group t [] p = omega arith
 passes-push hw cpu group t (q ∷ ps) p = omega (arith, passes-push hw cpu group (tell_pass hw cpu group t q) ps p)
 
 -- so by the groups of the world before
-pub tried-then : (cpu : CpuNo) (v w : World) (start f : SoFar) (done : List Key) (k : Key) → w ≡ retold cpu v w
-    → tally_in w cpu f ≡ fold (tell v.hardware cpu (group_at v)) (tally_in v cpu start) done
-    → tried_in v.hardware cpu (group_at v) (tally_in v cpu start) done + tries (told_of w.hardware cpu (group_at w k) (tally_in w cpu f)) (group_at w k)
-    ≡ tried_in v.hardware cpu (group_at v) (tally_in v cpu start) (done ++ k ∷ [])
-tried-then cpu v w start f done k same before =
-    ap (λ n. tried_in v.hardware cpu (group_at v) (tally_in v cpu start) done + n)
-    (ap (λ (y : World). tries (told_of y.hardware cpu (group_at y k) (tally_in w cpu f)) (group_at y k)) same
-    ∙ ap (λ t. tries (told_of v.hardware cpu (group_at v k) t) (group_at v k)) before)
-    ∙ sym (tried-push v.hardware cpu (group_at v) (tally_in v cpu start) done k)
+pub tried-then : (cpu : CpuNo) (v w : World) (start t : Tally) (done : List Key) (k : Key) → w ≡ restood v w → t ≡ fold (tell v.hardware cpu (group_at v)) start done
+    → tried_in v.hardware cpu (group_at v) start done + tries (told_of w.hardware cpu (group_at w k) t) (group_at w k)
+    ≡ tried_in v.hardware cpu (group_at v) start (done ++ k ∷ [])
+tried-then cpu v w start t done k same before =
+    ap (λ n. tried_in v.hardware cpu (group_at v) start done + n)
+    (ap (λ (y : World). tries (told_of y.hardware cpu (group_at y k) t) (group_at y k)) same
+    ∙ ap (λ u. tries (told_of v.hardware cpu (group_at v k) u) (group_at v k)) before)
+    ∙ sym (tried-push v.hardware cpu (group_at v) start done k)
 
-pub passes-then : (cpu : CpuNo) (v w : World) (start f : SoFar) (pass : ℕ) → pass < 4 → w ≡ retold cpu v w
-    → tally_in w cpu f ≡ fold (tell_pass v.hardware cpu (group_at v)) (tally_in v cpu start) (take pass (pass_leaders v cpu))
-    → tried_passes v.hardware cpu (group_at v) (tally_in v cpu start) (take pass (pass_leaders v cpu))
-    + tried_in w.hardware cpu (group_at w) (tally_in w cpu f) (slice_index_or (pass_leaders w cpu) pass [])
-    ≡ tried_passes v.hardware cpu (group_at v) (tally_in v cpu start) (take (pass + 1) (pass_leaders v cpu))
-passes-then cpu v w start f pass low same before =
+pub passes-then : (cpu : CpuNo) (v w : World) (start t : Tally) (pass : ℕ) → pass < 4 → w ≡ restood v w
+    → t ≡ fold (tell_pass v.hardware cpu (group_at v)) start (take pass (pass_leaders v cpu))
+    → tried_passes v.hardware cpu (group_at v) start (take pass (pass_leaders v cpu)) + tried_in w.hardware cpu (group_at w) t (slice_index_or (pass_leaders w cpu) pass [])
+    ≡ tried_passes v.hardware cpu (group_at v) start (take (pass + 1) (pass_leaders v cpu))
+passes-then cpu v w start t pass low same before =
     let one : pass + 1 ≡ suc pass = omega arith in
-    ap (λ n. tried_passes v.hardware cpu (group_at v) (tally_in v cpu start) (take pass (pass_leaders v cpu)) + n)
-    (ap (λ (y : World). tried_in y.hardware cpu (group_at y) (tally_in w cpu f) (slice_index_or (pass_leaders y cpu) pass [])) same
-    ∙ ap (λ t. tried_in v.hardware cpu (group_at v) t (slice_index_or (pass_leaders v cpu) pass [])) before)
-    ∙ (sym (passes-push v.hardware cpu (group_at v) (tally_in v cpu start) (take pass (pass_leaders v cpu)) (slice_index_or (pass_leaders v cpu) pass []))
-    ∙ sym (ap (tried_passes v.hardware cpu (group_at v) (tally_in v cpu start)) (ap (λ n. take n (pass_leaders v cpu)) one ∙ take-suc (pass_leaders v cpu) pass [] low)))
+    ap (λ n. tried_passes v.hardware cpu (group_at v) start (take pass (pass_leaders v cpu)) + n)
+    (ap (λ (y : World). tried_in y.hardware cpu (group_at y) t (slice_index_or (pass_leaders y cpu) pass [])) same
+    ∙ ap (λ u. tried_in v.hardware cpu (group_at v) u (slice_index_or (pass_leaders v cpu) pass [])) before)
+    ∙ (sym (passes-push v.hardware cpu (group_at v) start (take pass (pass_leaders v cpu)) (slice_index_or (pass_leaders v cpu) pass []))
+    ∙ sym (ap (tried_passes v.hardware cpu (group_at v) start) (ap (λ n. take n (pass_leaders v cpu)) one ∙ take-suc (pass_leaders v cpu) pass [] low)))
 
 -- of some verdicts
 abbrev tried_among : List Judged → ℕ
@@ -109,12 +107,9 @@ passes-tried v cpu start (p ∷ ps) told before t kept all once h =
     grind (arith, judges-next, groups, rest, one, append-nil)
 
 -- all groups of a processor on which no group was told yet
-pub all-tried : (v : World) (cpu : CpuNo) → IsKept v.hardware v → (seats_at v cpu).events ≡ []
-    → tried_passes v.hardware cpu (group_at v) (tally_in v cpu (record { exclusive_on = None; first_on = None; refused = None })) (pass_leaders v cpu) ≡ tried v.hardware (stage_of v) cpu
-all-tried v cpu kept empty =
-    let start : SoFar = record { exclusive_on = None; first_on = None; refused = None } in
-    omega (
-      arith,
-      passes-tried v cpu v.standings (pass_leaders v cpu) [] [] (tally_in v cpu start) kept (reached-leading v.hardware v kept cpu) (reached-once v.hardware v kept cpu) (none-told v cpu empty),
-      ap tried_among (all-verdicts v cpu),
-    )
+pub all-tried : (v : World) (cpu : CpuNo) → IsKept v.hardware v → tried_passes v.hardware cpu (group_at v) (tally_none v) (pass_leaders v cpu) ≡ tried v.hardware (stage_of v) cpu
+all-tried v cpu kept = omega (
+  arith,
+  passes-tried v cpu v.standings (pass_leaders v cpu) [] [] (tally_none v) kept (reached-leading v.hardware v kept cpu) (reached-once v.hardware v kept cpu) (none-told v cpu),
+  ap tried_among (all-verdicts v cpu),
+)

@@ -1,15 +1,16 @@
 -- inner
 -- How the groups of a processor are judged one after the other, by what those before leave. After ctx_sched_in,
 -- merge_sched_in and group_can_go_on of kernel/events/core.c; the tally is this project's own profile.
-use Rattle.std.specs.Prelude.{◌≡◌, ℕ, ◌+◌, Bool, true, false, not, ◌&&◌, List, [], ◌∷◌, ◌++◌, Option, Some, None, if◌then◌else◌}
+use Rattle.std.specs.Prelude.{ℕ, ◌+◌, Bool, true, false, not, ◌&&◌, List, [], ◌∷◌, ◌++◌, Option, Some, None, if◌then◌else◌}
 use Rattle.std.specs.{FinMap.{FinMap, insert}, List.{fold}, Ordering.{nat_cmp}}
 use Rattle.perf_base.specs.declared.{numbers.{CpuNo.{CpuNo}, EventNo.{EventNo}, Key.{Key}}, standing.Standing.{Standing}}
 use Rattle.perf_base.specs.Standings.{stands_on, stands_refused}
 use Rattle.perf_base.specs.declared.standing.Standing.TheVariants as standing
 use Rattle.stage_spec.specs.{Effective.{name_of, is_wholly_software, is_exclusive_group, counted_members}, Hardware.{Hardware}, Rules.{ruling_of}}
 use Rattle.stage_spec.specs.{Stage.{Group}, Verdict.{is_eligible, by_ruling, with_masks}}
-use Rattle.world_spec.specs.{Changes.{with_seats}, StageOf.{group_at}, Value.{World, seats_at}}
-use Rattle.cpu_sched.specs.{declared.judging.SoFar.{SoFar}, Tried.{tries}}
+use Rattle.world_spec.specs.{Changes.{with_seats}, Value.{World, seats_at}}
+use Rattle.counter_match.specs.Seating.{Seated}
+use Rattle.cpu_sched.specs.{declared.judging.SoFar.{SoFar}, Adopting.{with_standings}, Tried.{tries}}
 
 -- the name that is there, or the one that comes where a test holds
 abbrev pub first_or : Bool → EventNo → Option EventNo → Option EventNo
@@ -70,15 +71,16 @@ abbrev pub tried_passes : Hardware → CpuNo → (Key → Group) → Tally → L
 tried_passes hw cpu group t [] = 0
 tried_passes hw cpu group t (keys ∷ passes) = tried_in hw cpu group t keys + tried_passes hw cpu group (tell_pass hw cpu group t keys) passes
 
--- the tally of a world
-abbrev pub tally_in : World → CpuNo → SoFar → Tally
-tally_in w cpu f = record { standings = w.standings; events = (seats_at w cpu).events; so_far = f }
+-- the tally of a world, with the seats of what was judged, and that before the first group
+abbrev pub tally_in : World → Seated → SoFar → Tally
+tally_in w seats f = record { standings = w.standings; events = seats.events; so_far = f }
 
--- a world that differs in standings and in the seats of one processor
+abbrev pub tally_none : World → Tally
+tally_none w = record { standings = w.standings; events = []; so_far = record { exclusive_on = None; first_on = None; refused = None } }
+
+-- a world that differs in standings, and one that differs in the seats of one processor too
+abbrev pub restood : World → World → World
+restood w after = with_standings after.standings w
+
 abbrev pub retold : CpuNo → World → World → World
-retold cpu w after = record (with_seats cpu (seats_at after cpu) w) { standings = after.standings }
-
--- one group is judged: the tally has it, and nothing else changes
-pub record IsTold (cpu : CpuNo) (k : Key) (w : World) (f : SoFar) (after : World) (next : SoFar) : Type 0 where
-  pub tally : tally_in after cpu next ≡ tell w.hardware cpu (group_at w) (tally_in w cpu f) k
-  pub world : after ≡ retold cpu w after
+retold cpu w after = with_standings after.standings (with_seats cpu (seats_at after cpu) w)

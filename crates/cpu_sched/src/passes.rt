@@ -2,12 +2,10 @@
 //! and then its task's.
 
 ghost use Rattle.std.specs.Prelude.{◌≡◌, ◌+◌, ◌*◌, ◌<◌, ◌≤◌, false, Some, [], length, take, flat_map, slice_index_or};
-ghost use Rattle.counter_match.specs.Seating.{empty_seating};
-ghost use Rattle.world_spec.specs.Changes as change;
 ghost use Rattle.perf_base.specs.declared.standing.Context.TheVariants as context;
 ghost use Rattle.perf_base.specs.declared.numbers.Key.{Key as KeyNo};
 ghost use Rattle.perf_base.specs.declared.numbers.TaskNo.{TaskNo as Task};
-ghost use Rattle.stage_spec.specs.Hardware.{IsHardware};
+ghost use Rattle.stage_spec.specs.Hardware.{IsHardware, counters_of};
 ghost use Rattle.stage_spec.specs.Stage.{task_on};
 ghost use Rattle.stage_laws.specs.Narrowing.{has_context};
 ghost use Rattle.world_spec.specs.Listings.{pass_leaders, task_leaders};
@@ -16,11 +14,12 @@ ghost use Rattle.world_spec.specs.StageOf.{group_at, stage_of};
 ghost use Rattle.world_spec.specs.Value.{entry_at, standing_at, seats_at};
 ghost use Rattle.world_spec.specs.Copying.{leaders_in};
 ghost use Rattle.perf_world.specs.Seen.{IsWorld};
-ghost use Rattle.cpu_sched.specs.Judging.{tally_in, tell_pass, tried_in, retold};
+ghost use Rattle.cpu_sched.specs.Judging.{tally_in, tell_pass, tried_in, restood, retold};
 ghost use Rattle.cpu_sched.specs.Passes.{AreOfTold, told_before};
 ghost use Rattle.cpu_sched.specs.Tried.{tried};
 
 use crate::judging::{SoFar, tell};
+use counter_match::Seats;
 use perf_base::{Context, CpuNo, Key, Steps, TaskNo};
 use perf_world::World;
 use std::sync::ledger::Ledger;
@@ -92,28 +91,32 @@ fn judge_pass<L: Ledger>(
     cpu: CpuNo,
     pass: u8,
     so_far: SoFar,
+    seats: &mut Seats,
     tests: &mut Steps<L>,
 ) -> SoFar
     requires cpu { cpu.0 < length world.old.quiet.running }
     requires pass { pass < 4 }
-    requires events { AreOfTold world.old (told_before world.old cpu pass) (seats_at world.old cpu).events }
-    ensures tally { tally_in world.new cpu result ≡ tell_pass world.old.hardware cpu (group_at world.old) (tally_in world.old cpu so_far)
+    requires counters { seats.old.counters ≡ counters_of world.old.hardware cpu }
+    requires events { AreOfTold world.old (told_before world.old cpu pass) seats.old.events }
+    ensures tally { tally_in world.new seats.new result ≡ tell_pass world.old.hardware cpu (group_at world.old) (tally_in world.old seats.old so_far)
         (slice_index_or (pass_leaders world.old cpu) pass []) }
-    ensures world { world.new ≡ retold cpu world.old world.new }
-    ensures events { AreOfTold world.new (told_before world.new cpu (pass + 1)) (seats_at world.new cpu).events }
-    ensures least { tests.old + length (seats_at world.new cpu).events ≤ tests.new + length (seats_at world.old cpu).events }
-    ensures most { tests.new ≤ tests.old + 272 * tried_in world.old.hardware cpu (group_at world.old) (tally_in world.old cpu so_far)
+    ensures world { world.new ≡ restood world.old world.new }
+    ensures counters { seats.new.counters ≡ seats.old.counters }
+    ensures events { AreOfTold world.new (told_before world.new cpu (pass + 1)) seats.new.events }
+    ensures least { tests.old + length seats.new.events ≤ tests.new + length seats.old.events }
+    ensures most { tests.new ≤ tests.old + 272 * tried_in world.old.hardware cpu (group_at world.old) (tally_in world.old seats.old so_far)
         (slice_index_or (pass_leaders world.old cpu) pass []) }
 {
     let mut so_far = so_far;
     for place in 0..leaders(world, cpu, pass).len() {
         let leader = leaders(world, cpu, pass)[place];
-        so_far = tell(world, cpu, leader, so_far, tests);
+        so_far = tell(world, cpu, leader, so_far, seats, tests);
     }
     so_far.next_pass()
 }
 
-/// Judges all groups of a processor, with its counters empty at first.
+/// Judges all groups of a processor, with no event on its counters at first, and puts the events of those that are on
+/// there.
 pub fn judge_all<L: Ledger>(world: &mut World, cpu: CpuNo, tests: &mut Steps<L>)
     requires { cpu.0 < length world.old.quiet.running }
     ensures world { world.new ≡ retold cpu world.old world.new }
@@ -124,11 +127,12 @@ pub fn judge_all<L: Ledger>(world: &mut World, cpu: CpuNo, tests: &mut Steps<L>)
     ensures least { tests.old + length (seats_at world.new cpu).events ≤ tests.new }
     ensures most { tests.new ≤ tests.old + 272 * tried world.old.hardware (stage_of world.old) cpu }
 {
-    world.clear_seats(cpu);
     use_processor(world, cpu);
+    let mut seats = Seats::new(world.pmus().counters(cpu));
     let mut so_far = SoFar::new();
     for pass in 0..4 {
-        so_far = judge_pass(world, cpu, pass, so_far, tests);
+        so_far = judge_pass(world, cpu, pass, so_far, &mut seats, tests);
     }
+    world.set_seats(cpu, &seats);
     use_processor(world, cpu);
 }

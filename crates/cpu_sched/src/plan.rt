@@ -1,24 +1,16 @@
 //! Planning from a brief alone, with no world at hand: each group's standing, and the counters of events that are on.
 
-ghost use Rattle.std.specs.Prelude.{◌≡◌, ◌+◌, ◌*◌, ◌<◌, ◌≤◌, ◌==◌, ◌++◌, true, All, IfOk, [], length, map, count_by, vec_len, vec_capacity, if◌then◌else◌};
-ghost use Rattle.perf_base.specs.Masks.{IsMask};
-ghost use Rattle.perf_base.specs.Standings.{stands_on};
+ghost use Rattle.std.specs.Prelude.{◌≡◌, ◌+◌, ◌*◌, ◌<◌, ◌≤◌, ◌==◌, ◌++◌, All, IfOk, [], length, map, count_by, vec_len, vec_capacity};
 ghost use Rattle.perf_base.specs.declared.numbers.EventNo.{EventNo as Event};
-ghost use Rattle.stage_spec.specs.Rules.{ruling_of};
-ghost use Rattle.stage_spec.specs.Tight.{masks_of};
-ghost use Rattle.stage_spec.specs.Verdict.{by_ruling};
 ghost use Rattle.counter_match.specs.Seating.{AreDistinct, empty_seating};
 ghost use Rattle.cpu_sched.specs.Briefs.{seen, events_in, IsGroupBrief};
-ghost use Rattle.cpu_sched.specs.Judging.{events_next};
 ghost use Rattle.cpu_sched.specs.Plans.{draft_of, plan_one, plan_pass_of, judged_groups, told_by, tried_by, IsPlanOf};
-ghost use Rattle.cpu_sched.specs.Tried.{tries_for};
 
 use crate::brief::Brief;
 use crate::group_brief::GroupBrief;
-use crate::judging::SoFar;
+use crate::judging::{SoFar, judge};
 use counter_match::Seats;
-use perf_base::{Cause, Key, NoMemory, Standing, Steps};
-use sched_rules::may_go;
+use perf_base::{Key, NoMemory, Standing, Steps};
 use std::alloc::Global;
 use std::marker::Model;
 use std::sync::ledger::Ledger;
@@ -75,34 +67,6 @@ impl Plan {
     }
 }
 
-/// Judges a group of a brief: a rule that refuses it, or else the counters, on which it goes with the events already
-/// there where all fit together.
-fn judge_brief<L: Ledger>(
-    group: &GroupBrief,
-    so_far: &SoFar,
-    seats: &mut Seats,
-    tests: &mut Steps<L>,
-) -> Standing
-    requires software { group.now.software ≡ true → group.now.events ≡ [] }
-    requires distinct { AreDistinct (seats.old.events ++ group.now.events) }
-    requires masks { All (IsMask seats.old.counters) (masks_of group.now.events) }
-    ensures standing { result ≡ by_ruling
-        (ruling_of group.now.software group.now.exclusive so_far.now.exclusive_on so_far.now.first_on so_far.now.refused)
-        (seats.old.events ++ group.now.events) }
-    ensures events { seats.new.events ≡ events_next result group.now.events seats.old.events }
-    ensures counters { seats.new.counters ≡ seats.old.counters }
-    ensures least { tests.old + (if stands_on result then length group.now.events else 0) ≤ tests.new }
-    ensures most { tests.new ≤ tests.old + 272 * tries_for result (length group.now.events) }
-{
-    if let Err(rule) = may_go(&so_far.facts(group)) {
-        return Standing::Refused(Cause::Rule(rule));
-    }
-    match seats.try_add(group.events.as_slice(), tests) {
-        Ok(()) => Standing::On,
-        Err(slots) => Standing::Refused(Cause::Hall(slots)),
-    }
-}
-
 /// Plans a group after those that were planned before it.
 fn plan_group<L: Ledger>(
     group: &GroupBrief,
@@ -124,7 +88,7 @@ fn plan_group<L: Ledger>(
     ensures most { tests.new ≤ tests.old
         + 272 * (plan_one (draft_of (told_by verdicts.old.items) seats.old.events so_far) (seen group.now)).tried }
 {
-    let standing = judge_brief(group, &so_far, seats, tests);
+    let standing = judge(group, &so_far, seats, tests);
     verdicts.push_reserved(Verdict {
         leader: group.leader,
         standing,
@@ -173,32 +137,14 @@ pub fn make_plan<L: Ledger>(brief: &Brief, into: &mut Plan, tests: &mut Steps<L>
 {
     into.verdicts.clear();
     into.seats = Seats::new(brief.counters());
-    let first = plan_pass(
-        brief.pass(0),
-        SoFar::new(),
-        &mut into.verdicts,
-        &mut into.seats,
-        tests,
-    );
-    let second = plan_pass(
-        brief.pass(1),
-        first,
-        &mut into.verdicts,
-        &mut into.seats,
-        tests,
-    );
-    let third = plan_pass(
-        brief.pass(2),
-        second,
-        &mut into.verdicts,
-        &mut into.seats,
-        tests,
-    );
-    plan_pass(
-        brief.pass(3),
-        third,
-        &mut into.verdicts,
-        &mut into.seats,
-        tests,
-    );
+    let mut so_far = SoFar::new();
+    for pass in 0..4 {
+        so_far = plan_pass(
+            brief.pass(pass),
+            so_far,
+            &mut into.verdicts,
+            &mut into.seats,
+            tests,
+        );
+    }
 }

@@ -58,17 +58,24 @@ by_counters events = elim (fits (masks_of events)) [
   | false ↦ standing.Refused (cause.Hall (map (λ event. event.0) (tight_set (shortest_unfit events))))
 ]
 
--- What is said of a group after those of earlier passes and those within its own pass: the rules decide first, and else
--- the counters do.
+-- The rules decide first, and else the counters do.
 abbrev pub by_ruling : Ruling → List (EventNo × ℕ) → Standing
 by_ruling GoesOn events = standing.On
 by_ruling (Refuses rule) events = standing.Refused (cause.Rule rule)
 by_ruling AsksCounters events = by_counters events
 
+-- what the rules say of a group beside those that are on, after those of its own pass
+abbrev pub ruling_beside : (on : List Group) → (within : List Judged) → Group → Ruling
+ruling_beside on within g =
+    ruling_of (is_wholly_software g) (is_exclusive_group g) (first_named is_exclusive_group on) (first_named (λ h. not (is_wholly_software h)) on) (first_refused within)
+
+-- the events that need counters where a group goes on beside those that are on, each with the counters that count it
+abbrev pub events_beside : Hardware → (on : List Group) → Group → List (EventNo × ℕ)
+events_beside hw on g = with_masks hw (flat_map counted_members on ++ counted_members g)
+
+-- What is said of a group after those of earlier passes and those within its own pass.
 unfoldable pub judge : Hardware → (before within : List Judged) → Group → Standing
-judge hw before within g = by_ruling (ruling_of (is_wholly_software g) (is_exclusive_group g) (first_named is_exclusive_group (groups_on (before ++ within)))
-    (first_named (λ h. not (is_wholly_software h)) (groups_on (before ++ within))) (first_refused within))
-    (with_masks hw (flat_map counted_members (groups_on (before ++ within)) ++ counted_members g))
+judge hw before within g = by_ruling (ruling_beside (groups_on (before ++ within)) within g) (events_beside hw (groups_on (before ++ within)) g)
 
 -- the groups of one pass, judged one after the other
 unfoldable pub judge_pass : Hardware → (before within : List Judged) → List Group → List Judged

@@ -1,5 +1,5 @@
-use Rattle.std.proofs.Common.{arith, ◌∙◌, ◌<◌, length, sym}
-use Rattle.world_spec.specs.{StageOf.{group_at}, Value.{seats_at}}
+use Rattle.std.proofs.Common.{◌∙◌, sym}
+use Rattle.world_spec.specs.StageOf.{group_at}
 use Rattle.cpu_sched.proofs.Briefs.{software-uncounted, group-fits}
 use Rattle.cpu_sched.proofs.judging.tell.Goals as goal
 
@@ -9,7 +9,5 @@ judge-standing-requires-clause-software g c =
 
 pub judge-standing-requires-clause-masks : goal.judge-standing-requires-clause-masks
 judge-standing-requires-clause-masks g c =
-    let low : c.args.cpu.0 < length c.args.world.now.quiet.seats = omega (arith, c.requires.cpu, c.brief_of-brief.ensures.kept.tables.seats) in
-    group-fits c.args.world.now.hardware c.args.cpu (group_at c.args.world.now c.args.leader) c.brief_of-brief.result.events (seats_at c.args.world.now c.args.cpu).counters
-    c.requires.hardware (sym c.eligible.ensures ∙ c.if-not-eligible.false) c.brief_of-brief.ensures.events c.brief_of-brief.ensures.some
-    (c.brief_of-brief.ensures.kept.seated.counters c.args.cpu low)
+    group-fits c.args.world.now.hardware c.args.cpu (group_at c.args.world.now c.args.leader) c.brief_of-brief.result.events c.args.seats.now.counters
+    c.requires.hardware (sym c.eligible.ensures ∙ c.if-not-eligible.false) c.brief_of-brief.ensures.events c.brief_of-brief.ensures.some c.requires.counters

@@ -1,98 +1,95 @@
-use Rattle.std.{proofs.{Common.{arith, ◌≡◌, ◌∙◌, ◌<◌, [], length, ap, subst, take}, lemmas.List.{length-set, take_all}}, specs.List.{fold}}
-use Rattle.std.specs.Prelude.{None}
-use Rattle.counter_match.specs.Seating.{Seated, empty_seating}
-use Rattle.perf_base.specs.declared.numbers.CpuNo.{CpuNo}
-use Rattle.stage_laws.specs.Narrowing.{has_context}
-use Rattle.world_spec.specs.{Changes.{with_seats}, Kept.{IsKept}, Listings.{pass_leaders}, Rescheduled.{IsJudged}, StageOf.{group_at, stage_of}}
-use Rattle.world_spec.specs.Value.{World, entry_at, standing_at, seats_at}
-use Rattle.cpu_sched.{specs.{Judging.{tally_in, tell_pass, tried_passes}, Tried.{tried}}, proofs.Judged.{is_tallied, all-judged, others-stand}}
-use Rattle.cpu_sched.proofs.{Retold.{retold-twice, pass-then, cleared, cleared-at}, Tried.{passes-then, all-tried}}
+use Rattle.std.{proofs.{Common.{arith, ◌≡◌, ◌∙◌, ◌<◌, length, ap, refl, sym, subst, take}, lemmas.List.{take_all}}, specs.List.{fold}}
+use Rattle.stage_spec.specs.Hardware.{counters_of}
+use Rattle.world_spec.specs.{Kept.{IsKept}, Listings.{pass_leaders}, StageOf.{group_at}, Value.{World, seats_at}}
+use Rattle.cpu_sched.specs.Judging.{tally_in, tally_none, tell_pass, tried_passes}
+use Rattle.cpu_sched.proofs.{Judged.{is_tallied, all-judged, others-stand}, Retold.{restood-twice, pass-then, seated-at, seated-then}, Served.{slots}, Tried.{passes-then, all-tried}}
+use Rattle.cpu_sched.proofs.passes.judge_all.Given.{Over}
 use Rattle.cpu_sched.proofs.passes.judge_all.Goals as goal
+
+pub loop-pass-init : goal.loop-pass-init
+loop-pass-init g c = record {
+  world = refl;
+  tally = λ i. tally_in c.args.world.now (c.new-seats.ensures i) (c.new-so_far.ensures i);
+  counters = ap (λ s. s.counters) c.new-seats.ensures ∙ (c.counters.ensures.number ∙ ap (λ hw. counters_of hw c.args.cpu) c.pmus.ensures.pmus);
+  events = λ e. omega (arith, ap (λ s. slots e s.events) c.new-seats.ensures);
+  least = omega (arith, ap (λ s. length s.events) c.new-seats.ensures);
+  most = omega arith;
+}
+
+pub judge_pass-so_far-requires-clause-cpu : goal.judge_pass-so_far-requires-clause-cpu
+judge_pass-so_far-requires-clause-cpu g c = omega (arith, c.requires, ap (λ (w : World). length w.quiet.running) c.loop-pass.invariant.world)
+
+pub judge_pass-so_far-requires-clause-counters : goal.judge_pass-so_far-requires-clause-counters
+judge_pass-so_far-requires-clause-counters g c = c.loop-pass.invariant.counters ∙ sym (ap (λ (w : World). counters_of w.hardware c.args.cpu) c.loop-pass.invariant.world)
 
 pub loop-pass-preserved : goal.loop-pass-preserved
 loop-pass-preserved g c = record {
-  world = retold-twice c.args.cpu c.clear_seats.new.self c.loop-pass.world c.judge_pass-so_far.new.world c.loop-pass.invariant.world c.judge_pass-so_far.ensures.world;
-  tally = pass-then c.args.cpu c.clear_seats.new.self c.loop-pass.world c.judge_pass-so_far.new.world c.new-so_far.result c.loop-pass.so_far c.judge_pass-so_far.result c.loop-pass.pass
-      c.loop-pass-test.true c.loop-pass.invariant.world c.loop-pass.invariant.tally c.judge_pass-so_far.ensures.tally;
+  world = restood-twice c.args.world.now c.loop-pass.world c.judge_pass-so_far.new.world c.loop-pass.invariant.world c.judge_pass-so_far.ensures.world;
+  tally = pass-then c.args.cpu c.args.world.now c.loop-pass.world (tally_none c.args.world.now) (tally_in c.loop-pass.world c.loop-pass.seats c.loop-pass.so_far)
+      (tally_in c.judge_pass-so_far.new.world c.judge_pass-so_far.new.seats c.judge_pass-so_far.result) c.loop-pass.pass c.loop-pass-test.true
+      c.loop-pass.invariant.world c.loop-pass.invariant.tally c.judge_pass-so_far.ensures.tally;
+  counters = c.judge_pass-so_far.ensures.counters ∙ c.loop-pass.invariant.counters;
   events = c.judge_pass-so_far.ensures.events;
   least = omega (arith, c.loop-pass.invariant.least, c.judge_pass-so_far.ensures.least);
   most = omega (
     arith,
     c.loop-pass.invariant.most,
     c.judge_pass-so_far.ensures.most,
-    passes-then c.args.cpu c.clear_seats.new.self c.loop-pass.world c.new-so_far.result c.loop-pass.so_far c.loop-pass.pass c.loop-pass-test.true c.loop-pass.invariant.world c.loop-pass.invariant.tally,
+    passes-then c.args.cpu c.args.world.now c.loop-pass.world (tally_none c.args.world.now) (tally_in c.loop-pass.world c.loop-pass.seats c.loop-pass.so_far) c.loop-pass.pass
+        c.loop-pass-test.true c.loop-pass.invariant.world c.loop-pass.invariant.tally,
   );
 }
 
--- the seats of the world in which the groups are told
-low-before : (w v : World) (cpu : CpuNo) (e : Seated) → cpu.0 < length w.quiet.running → length v.quiet.seats ≡ length v.quiet.running → v ≡ with_seats cpu e w → cpu.0 < length w.quiet.seats
-low-before w v cpu e low sizes is =
-    omega (arith, low, sizes, ap (λ (x : World). length x.quiet.seats) is, ap (λ (x : World). length x.quiet.running) is, length-set w.quiet.seats cpu.0 e)
+pub set_seats-requires-clause-cpu : goal.set_seats-requires-clause-cpu
+set_seats-requires-clause-cpu g c = omega (arith, c.requires, ap (λ (w : World). length w.quiet.running) c.loop-pass.invariant.world)
 
-low-after : (w v : World) (cpu : CpuNo) (e : Seated) → cpu.0 < length w.quiet.seats → v ≡ with_seats cpu e w → cpu.0 < length v.quiet.seats
-low-after w v cpu e low is = omega (arith, low, ap (λ (x : World). length x.quiet.seats) is, length-set w.quiet.seats cpu.0 e)
+pub set_seats-requires-clause-counters : goal.set_seats-requires-clause-counters
+set_seats-requires-clause-counters g c =
+    let low : c.args.cpu.0 < length c.args.world.now.quiet.seats = omega (arith, c.requires, c.use_processor.ensures.kept.tables.seats) in
+    ap (λ (w : World). (seats_at w c.args.cpu).counters) c.loop-pass.invariant.world ∙ (c.use_processor.ensures.kept.seated.counters c.args.cpu low ∙ sym c.loop-pass.invariant.counters)
 
-pub returns-clause-judged : goal.returns-clause-judged
-returns-clause-judged g c =
-    let v : World = c.clear_seats.new.self in
-    let e : Seated = empty_seating (seats_at c.args.world.now c.args.cpu).counters in
-    let low : c.args.cpu.0 < length c.args.world.now.quiet.seats =
-    low-before c.args.world.now v c.args.cpu e c.requires c.use_processor.ensures.kept.tables.seats c.clear_seats.ensures.world in
-    let hardware : c.loop-pass.world.hardware ≡ v.hardware = ap (λ (w : World). w.hardware) c.loop-pass.invariant.world in
-    let all : take c.loop-pass.pass (pass_leaders v c.args.cpu) ≡ pass_leaders v c.args.cpu = take_all c.loop-pass.pass (pass_leaders v c.args.cpu) (omega (arith, c.loop-pass-test.false)) in
-    let tallied : is_tallied v c.loop-pass.world c.args.cpu c.loop-pass.so_far =
-    c.loop-pass.invariant.tally ∙ (λ i. fold (tell_pass v.hardware c.args.cpu (group_at v)) (tally_in v c.args.cpu (c.new-so_far.ensures i)) (all i)) in
-    subst (λ hw. IsJudged hw c.loop-pass.world c.args.cpu) (ap (λ (w : World). w.hardware) c.clear_seats.ensures.world)
-    (all-judged v c.loop-pass.world c.args.cpu c.loop-pass.so_far c.use_processor.ensures.kept
-    (subst (λ hw. IsKept hw c.loop-pass.world) hardware c.use_processor-2.ensures.kept) (low-after c.args.world.now v c.args.cpu e low c.clear_seats.ensures.world) c.loop-pass.invariant.world
-    (ap (λ s. s.events) (cleared-at c.args.cpu c.args.world.now v e low c.clear_seats.ensures.world)) tallied)
+pub use_processor-requires-2 : goal.use_processor-requires-2
+use_processor-requires-2 g c =
+    omega (arith, c.requires, ap (λ (w : World). length w.quiet.running) c.loop-pass.invariant.world, ap (λ (w : World). length w.quiet.running) c.set_seats.ensures.world)
 
-pub returns-clause-others : goal.returns-clause-others
-returns-clause-others g c =
-    let v : World = c.clear_seats.new.self in
-    let e : Seated = empty_seating (seats_at c.args.world.now c.args.cpu).counters in
-    let low : c.args.cpu.0 < length c.args.world.now.quiet.seats =
-    low-before c.args.world.now v c.args.cpu e c.requires c.use_processor.ensures.kept.tables.seats c.clear_seats.ensures.world in
-    let all : take c.loop-pass.pass (pass_leaders v c.args.cpu) ≡ pass_leaders v c.args.cpu = take_all c.loop-pass.pass (pass_leaders v c.args.cpu) (omega (arith, c.loop-pass-test.false)) in
-    let tallied : is_tallied v c.loop-pass.world c.args.cpu c.loop-pass.so_far =
-    c.loop-pass.invariant.tally ∙ (λ i. fold (tell_pass v.hardware c.args.cpu (group_at v)) (tally_in v c.args.cpu (c.new-so_far.ensures i)) (all i)) in
-    λ k away.
-    others-stand v c.loop-pass.world c.args.cpu c.loop-pass.so_far c.use_processor.ensures.kept (ap (λ s. s.events) (cleared-at c.args.cpu c.args.world.now v e low c.clear_seats.ensures.world)) tallied k
-    (ap (λ (w : World). has_context (stage_of w) c.args.cpu (entry_at w k).context) c.clear_seats.ensures.world ∙ away)
-    ∙ ap (λ (w : World). standing_at w k) c.clear_seats.ensures.world
+-- the seats that the processor gets, and that all its groups are told
+low : (g : Over) (c : goal.After-use_processor-2 g) → c.args.cpu.0 < length c.args.world.now.quiet.seats
+low g c = omega (arith, c.requires, c.use_processor.ensures.kept.tables.seats)
+
+seats-are : (g : Over) (c : goal.After-use_processor-2 g) → seats_at c.set_seats.new.self c.args.cpu ≡ c.loop-pass.seats
+seats-are g c = seated-at c.args.cpu c.args.world.now c.loop-pass.world c.set_seats.new.self c.loop-pass.seats (low g c) c.loop-pass.invariant.world c.set_seats.ensures.world
+
+all-passes : (g : Over) (c : goal.After-use_processor-2 g) → take c.loop-pass.pass (pass_leaders c.args.world.now c.args.cpu) ≡ pass_leaders c.args.world.now c.args.cpu
+all-passes g c = take_all c.loop-pass.pass (pass_leaders c.args.world.now c.args.cpu) (omega (arith, c.loop-pass-test.false))
+
+tallied : (g : Over) (c : goal.After-use_processor-2 g) → is_tallied c.args.world.now (tally_in c.set_seats.new.self (seats_at c.set_seats.new.self c.args.cpu) c.loop-pass.so_far) c.args.cpu
+tallied g c =
+    (λ i. tally_in (c.set_seats.ensures.world i) (seats-are g c i) c.loop-pass.so_far)
+    ∙ (c.loop-pass.invariant.tally
+    ∙ ap (fold (tell_pass c.args.world.now.hardware c.args.cpu (group_at c.args.world.now)) (tally_none c.args.world.now)) (all-passes g c))
 
 pub returns-clause-world : goal.returns-clause-world
 returns-clause-world g c =
-    let v : World = c.clear_seats.new.self in
-    let e : Seated = empty_seating (seats_at c.args.world.now c.args.cpu).counters in
-    let low : c.args.cpu.0 < length c.args.world.now.quiet.seats =
-    low-before c.args.world.now v c.args.cpu e c.requires c.use_processor.ensures.kept.tables.seats c.clear_seats.ensures.world in
-    retold-twice c.args.cpu c.args.world.now v c.loop-pass.world (cleared c.args.cpu c.args.world.now v e low c.clear_seats.ensures.world) c.loop-pass.invariant.world
+    seated-then c.args.cpu c.args.world.now c.loop-pass.world c.set_seats.new.self c.loop-pass.seats (low g c) c.loop-pass.invariant.world c.set_seats.ensures.world
 
--- no event is on the counters that were cleared
+pub returns-clause-judged : goal.returns-clause-judged
+returns-clause-judged g c =
+    let hardware : c.set_seats.new.self.hardware ≡ c.args.world.now.hardware = ap (λ (w : World). w.hardware) c.set_seats.ensures.world ∙ ap (λ (w : World). w.hardware) c.loop-pass.invariant.world in
+    all-judged c.args.world.now c.set_seats.new.self c.args.cpu c.loop-pass.so_far c.use_processor.ensures.kept (subst (λ hw. IsKept hw c.set_seats.new.self) hardware c.use_processor-2.ensures.kept) (low g c)
+    (seated-then c.args.cpu c.args.world.now c.loop-pass.world c.set_seats.new.self c.loop-pass.seats (low g c) c.loop-pass.invariant.world c.set_seats.ensures.world) (tallied g c)
+
+pub returns-clause-others : goal.returns-clause-others
+returns-clause-others g c = others-stand c.args.world.now c.set_seats.new.self c.args.cpu c.loop-pass.so_far c.use_processor.ensures.kept (tallied g c)
+
+-- no event is on the counters at first
 pub returns-clause-least : goal.returns-clause-least
-returns-clause-least g c =
-    let v : World = c.clear_seats.new.self in
-    let e : Seated = empty_seating (seats_at c.args.world.now c.args.cpu).counters in
-    let low : c.args.cpu.0 < length c.args.world.now.quiet.seats =
-    low-before c.args.world.now v c.args.cpu e c.requires c.use_processor.ensures.kept.tables.seats c.clear_seats.ensures.world in
-    omega (arith, c.loop-pass.invariant.least, ap (λ s. length s.events) (cleared-at c.args.cpu c.args.world.now v e low c.clear_seats.ensures.world))
+returns-clause-least g c = omega (arith, c.loop-pass.invariant.least, ap (λ s. length s.events) (seats-are g c))
 
 pub returns-clause-most : goal.returns-clause-most
 returns-clause-most g c =
-    let v : World = c.clear_seats.new.self in
-    let e : Seated = empty_seating (seats_at c.args.world.now c.args.cpu).counters in
-    let low : c.args.cpu.0 < length c.args.world.now.quiet.seats =
-    low-before c.args.world.now v c.args.cpu e c.requires c.use_processor.ensures.kept.tables.seats c.clear_seats.ensures.world in
-    let empty : (seats_at v c.args.cpu).events ≡ [] = ap (λ s. s.events) (cleared-at c.args.cpu c.args.world.now v e low c.clear_seats.ensures.world) in
-    let all : take c.loop-pass.pass (pass_leaders v c.args.cpu) ≡ pass_leaders v c.args.cpu = take_all c.loop-pass.pass (pass_leaders v c.args.cpu) (omega (arith, c.loop-pass-test.false)) in
-    let whole : tried_passes v.hardware c.args.cpu (group_at v) (tally_in v c.args.cpu c.new-so_far.result) (take c.loop-pass.pass (pass_leaders v c.args.cpu))
-    ≡ tried_passes v.hardware c.args.cpu (group_at v) (tally_in v c.args.cpu (record { exclusive_on = None; first_on = None; refused = None })) (pass_leaders v c.args.cpu) =
-    λ i. tried_passes v.hardware c.args.cpu (group_at v) (tally_in v c.args.cpu (c.new-so_far.ensures i)) (all i) in
     omega (
       arith,
       c.loop-pass.invariant.most,
-      whole,
-      all-tried v c.args.cpu c.use_processor.ensures.kept empty,
-      ap (λ (w : World). tried w.hardware (stage_of w) c.args.cpu) c.clear_seats.ensures.world,
+      ap (tried_passes c.args.world.now.hardware c.args.cpu (group_at c.args.world.now) (tally_none c.args.world.now)) (all-passes g c),
+      all-tried c.args.world.now c.args.cpu c.use_processor.ensures.kept,
     )

@@ -1,3 +1,3 @@
--- The tests are counted on the caller's ledger, so no call here names one. A body that counts on a ledger of its own has
--- in the place of these lines the import of its goals,
+-- The tests are counted on the caller's ledger, so no call here names one. A body that counts on a ledger of its own
+-- has in the place of these lines the import of its goals,
 -- the name of its pick, and the pick.
