@@ -1,4 +1,6 @@
-//! That shared values cross threads, and which bits are flags.
+//! That shared values cross threads, which bits are flags, and that answers are kept.
+
+ghost use Rattle.std.specs.Prelude.{◌≡◌, ◌+◌, ◌<◌, length};
 
 use crate::checks::{check, check_eq};
 use bitflags::Flags;
@@ -7,14 +9,15 @@ use event_counts::CountAcc;
 use event_times::TimeAcc;
 use group_lists::GroupList;
 use perf_base::{
-    Act, Actor, Attr, AttrFlags, Cause, Context, CpuLine, CpuNo, CpuSel, CpuSet, EventNo, Key,
-    Kind, KindLine, Mode, Name, NoMemory, Own, PmuLine, ReaderLine, Reason, Reply, RingNo, Rule,
-    SReason, Script, SeatList, Standing, Steps, StoredReply, Sums, TaskNo, TaskSel, Tight,
+    Act, Actor, Answer, Answers, Attr, AttrFlags, Cause, Context, CpuLine, CpuNo, CpuSel, CpuSet,
+    EventNo, Key, Kind, KindLine, Mode, Name, NoMemory, Own, PmuLine, ReaderLine, Reason, Reply,
+    RingNo, Rule, SReason, Script, SeatList, Standing, Steps, Sums, TaskNo, TaskSel, Tight,
     ToolLine, ToolNo, Why, Words, Work,
 };
 use pmu_model::Pmus;
 use sched_rules::Facts;
 use std::marker::Brand;
+use std::test::Fail;
 
 #[test]
 fn flags_are_those_of_their_table(rt: HostRuntime) {
@@ -40,6 +43,8 @@ fn moves<T: Send>() {}
 fn shared_types_cross_threads(_rt: HostRuntime) {
     crosses::<Act>();
     crosses::<Actor>();
+    crosses::<Answer>();
+    crosses::<Answers>();
     crosses::<Attr>();
     crosses::<AttrFlags>();
     crosses::<Cause>();
@@ -71,7 +76,6 @@ fn shared_types_cross_threads(_rt: HostRuntime) {
     crosses::<SeatList>();
     crosses::<Seats>();
     crosses::<Standing>();
-    crosses::<StoredReply>();
     crosses::<Sums>();
     crosses::<TaskNo>();
     crosses::<TaskSel>();
@@ -87,4 +91,39 @@ fn shared_types_cross_threads(_rt: HostRuntime) {
 #[test]
 fn counted_steps_go_with_their_thread(_rt: HostRuntime) {
     moves::<Steps<Brand>>();
+}
+
+fn put(answers: &mut Answers, number: u32, reply: Reply)
+    requires { length answers.old.items < answers.old.room }
+    ensures length { length answers.new.items ≡ length answers.old.items + 1 }
+    ensures room { answers.new.room ≡ answers.old.room }
+{
+    answers.push_reserved(Answer {
+        actor: Actor::Tool(ToolNo(1)),
+        number,
+        reply,
+    });
+}
+
+#[test]
+fn answers_are_got_as_they_were_put(rt: HostRuntime) -> Result<(), Fail> {
+    let replies = [
+        Reply::Ok,
+        Reply::Refused(Reason::NoEvent),
+        Reply::Read(Words::from_slice(&[7, 9])),
+        Reply::Refused(Reason::NoAssignment(Tight::from_slice(&[EventNo(3)]))),
+        Reply::Why(Why::Away),
+    ];
+    let mut answers = Answers::with_room(rt.alloc(), 5)?;
+    put(&mut answers, 0, replies[0]);
+    put(&mut answers, 1, replies[1]);
+    put(&mut answers, 2, replies[2]);
+    put(&mut answers, 3, replies[3]);
+    put(&mut answers, 4, replies[4]);
+    for place in 0..5 {
+        let answer = answers.get(place);
+        check_eq(&rt, answer.number as usize, place);
+        check(&rt, answer.reply == replies[place]);
+    }
+    Ok(())
 }

@@ -1,7 +1,12 @@
+pub mod Alone
+pub mod Answered
 pub mod Bits
 pub mod Entries
+pub mod FlatMaps
 pub mod Kept
+pub mod Limits
 pub mod ListsOfLists
 pub mod Padding
 pub mod Places
+pub mod Prefixes
 pub mod Weights

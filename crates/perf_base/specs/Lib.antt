@@ -1,7 +1,9 @@
 pub mod Acts
+pub mod Answered
 pub mod Contexts
 pub mod Cpus
 pub mod Flags
+pub mod FlatMaps
 pub mod Kinds
 pub mod Light
 pub mod Masks

@@ -4,6 +4,7 @@
 #![tactic(auto)]
 
 mod acts;
+mod answers;
 mod attr;
 mod flags;
 mod lines;
@@ -18,13 +19,14 @@ mod stored;
 mod weight;
 
 pub use acts::{Act, Actor};
+pub use answers::Answers;
 pub use attr::{Attr, CpuSel, Kind, TaskSel};
 pub use flags::AttrFlags;
 pub use lines::{CpuLine, KindLine, Mode, PmuLine, ReaderLine, ToolLine, Work};
 pub use lists::{Filling, Name, SeatList, ShortList, Tight, Words};
 pub use numbers::{CpuNo, CpuSet, EventNo, Key, NoMemory, RingNo, TaskNo, ToolNo};
 pub use reasons::{Reason, SReason};
-pub use reply::{Answer, Reply, StoredReply, Sums};
+pub use reply::{Answer, Reply, Sums};
 pub use script::Script;
 pub use standing::{Cause, Context, Own, Rule, Standing, Why};
 pub use steps::Steps;

@@ -4,6 +4,7 @@ use Rattle.std.proofs.{Common.{arith, sym, ap, ◌∙◌, inl, inr, get_or}, lem
 use Rattle.std.proofs.lemmas.Option.{none-some, same_Some, slice_get_cases, slice_get_within}
 use Rattle.perf_base.specs.declared.{acts.Act.{Act}, lines.ReaderLine.{ReaderLine}, numbers.RingNo.{RingNo}}
 use Rattle.perf_base.specs.Scripts.{HasRing, IsRingLine, IsScript, Scripted}
+use Rattle.perf_base.proofs.Limits.{ring_small}
 use Rattle.report_spec.specs.Answers.{reader_of}
 use Rattle.sample_ring.specs.{InEnds.{InEnd}, OutEnds.{OutEnd}, RingLists.{InList, OutList, RingList, ring_index}}
 use Rattle.sample_ring.specs.RingLists as lists
@@ -13,9 +14,6 @@ use Rattle.machine.proofs.Unlawful.{ring-there}
 use Rattle.perf_book.specs.{Book.{Booked, IsBooked}, Plans.{IsPlanned}, Running.{AreReady, IsReadBy, IsReady, slot_of}}
 
 -- a script has at most 16 readers, since their rings rise and are below 16
-declared-small : (rings : List (RingNo × ℕ)) (ring : RingNo) → All IsRingLine rings → HasRing rings ring → ring.0 < 16
-declared-small rings ring small there = grind arith
-
 place-below : (lines : List ReaderLine) (k : ℕ) (d : ReaderLine) → AllPairs (λ q r. q.ring.0 < r.ring.0) lines → k < length lines → k ≤ (get_or lines k d).ring.0
 place-below lines zero d rise low = omega arith
 place-below lines (suc k) d rise low = omega (arith, place-below lines k d rise (omega (arith, low)), rise k (suc k) d (omega arith) low)
@@ -26,7 +24,7 @@ few-below (line ∷ lines) rise small =
     omega (arith, place-below (line ∷ lines) (length lines) line rise (omega arith), small (length lines) line (omega arith))
 
 pub few-readers : (s : Scripted) → IsScript s → length s.readers ≤ 16
-few-readers s h = few-below s.readers h.readers_rise (λ k d low. declared-small s.rings (get_or s.readers k d).ring h.rings (h.readers k d low).ring)
+few-readers s h = few-below s.readers h.readers_rise (λ k d low. ring_small s.rings (get_or s.readers k d).ring h.rings (h.readers k d low).ring)
 
 -- what a plan of a script says of its readers
 pub planned : (s of : Scripted) (lines readers : List ReaderLine) (count : ℕ) → lines ≡ take count readers → IsPlanned of.readers readers count → of ≡ s → lines ≡ s.readers

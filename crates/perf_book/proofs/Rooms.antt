@@ -1,7 +1,7 @@
 -- Lists that have room for all acts of a script have room for the next ones.
 use Rattle.std.specs.Prelude.{◌≡◌, ℕ, ◌+◌, ◌*◌, ◌<◌, ◌≤◌, ◌==◌, Bool, true, false, List, [], ◌∷◌, ◌++◌, count_by, length, option_map, slice_get}
 use Rattle.std.proofs.{Common.{arith, refl, sym, ap, subst, ◌∙◌, append_assoc, append-nil, cond, inl, inr}, lemmas.Bool.{cases_eq}}
-use Rattle.std.proofs.lemmas.{Bool.Decides.{nat_tests}, List.{length-map, Sums.{sum_by-append, sum_by-cons, sum_by_push}}}
+use Rattle.std.proofs.lemmas.{Bool.Decides.{nat_tests}, List.{length-map, Sums.{sum_by-cons, sum_by_push}}}
 use Rattle.perf_base.specs.declared.{acts.{Act.{Act}, Actor.{Actor}}, numbers.{CpuNo.{CpuNo}, ToolNo.{ToolNo}}, reply.Answer.{Answer}}
 use Rattle.perf_base.specs.{Weight.{weight}, Scripts.{Scripted, IsCovered, IsScript, line_count, lines_of_cpu, lines_of_tool}}
 use Rattle.perf_base.specs.declared.acts.Act.TheVariants as act

@@ -3,7 +3,8 @@ use Rattle.std.{specs.Prelude.{◌≡◌, ℕ, ◌*◌, All, List, [], ◌∷◌
 use Rattle.std.proofs.lemmas.List.Elements.{All-cons, All-head, All-nil, All-tail}
 use Rattle.perf_base.specs.{declared.{acts.Act.{Act}, numbers.RingNo.{RingNo}}, Scripts.{Scripted}}
 use Rattle.ring_spec.specs.{Account.{Account, head_of}, Rings.{account_in, bytes_of}}
-use Rattle.sample_ring.{specs.RingLists.{InList}, proofs.Sending.{size-words}}
+use Rattle.ring_spec.proofs.Sizes.{size-words}
+use Rattle.sample_ring.specs.RingLists.{InList}
 use Rattle.run_end.specs.{declared.ended.RingEnd.{RingEnd}, Ended.{HasTakenAll}}
 use Rattle.machine.specs.Readers.{HasTaken, HaveTaken, IsShown}
 

@@ -1,12 +1,12 @@
 -- A run that is watched: each line publishes the look after it, and looks at rings none.
-use Rattle.std.specs.Prelude.{◌≡◌, ℕ, ◌+◌, Bool, true, false, List, [], ◌∷◌, ◌++◌, length, IfSome, Option, Some, None, if◌then◌else◌}
-use Rattle.std.proofs.{Common.{refl, sym, ap, subst, ◌∙◌, append_assoc, append-nil}, lemmas.{Bool.{false≢true}, Option.{none-some, same_Some}}}
+use Rattle.std.specs.Prelude.{◌≡◌, ℕ, ◌+◌, true, false, List, [], ◌∷◌, ◌++◌, length, IfSome, Option, Some, None}
+use Rattle.std.proofs.{Common.{refl, sym, ap, subst, ◌∙◌, append_assoc, append-nil}, lemmas.{Bool.{false≢true}, Option.{none-some}}}
 use Rattle.perf_base.specs.{declared.{acts.{Act.{Act}, Actor.{Actor}}, numbers.EventNo.{EventNo}, reply.Sums.{Sums}}, Scripts.{Scripted}}
 use Rattle.perf_base.specs.declared.acts.Act.TheVariants as act
 use Rattle.perf_base.specs.declared.acts.Actor.TheVariants as actor
 use Rattle.user_page.specs.{declared.look.Look.{Look}, Looks.{MayFollow}}
 use Rattle.machine.specs.Leading.{Kept, HasLine, act_of}
-use Rattle.stage_spec.specs.{Stage.{is_open}, Tables.{family_if_open, family_in, stage_in}}
+use Rattle.stage_spec.{specs.{Stage.{is_open}, Tables.{family_if_open, stage_in}}, proofs.Tables.{some-open, none-open}}
 use Rattle.report_spec.specs.{Published.{look_after, look_of, looks_if, publishes, published_looks}, Laws.{FollowsLaw, OneMoreLaw, RingsLaw}}
 use Rattle.ring_laws.specs.Growing.{AreLooks, does_line}
 use Rattle.perf_book.specs.{Book.{AreLooksOf}, Watching.{HasPublished, IsBehind, page_of, watched_by}, declared.publishing.Publisher.{Publisher}}
@@ -26,30 +26,22 @@ grown-by one-more s order p h =
     let does : publishes s h.front h.last e ≡ is_open (stage_in s order) e = line-publishes s h.front h.last e h.line ∙ ap (λ o. is_open (stage_in s o) e) whole in
     ap (λ o. published_looks s o e) h.order_is ∙ (one-more s h.front h.last e ∙ (λ i. sym h.published i ++ looks_if (does i) (look_after s (whole i) e)))
 
-some-by : (b : Bool) (x y : Sums) → Some x ≡ (if b then Some y else None) → (b ≡ true) × (x ≡ y)
-some-by true x y is = (refl, same_Some x y is)
-some-by false x y is = absurd (none-some x (sym is))
-
-none-by : (b : Bool) (y : Sums) → None ≡ (if b then Some y else None) → b ≡ false
-none-by true y is = absurd (none-some y is)
-none-by false y is = refl
-
 pub grown-open : OneMoreLaw → (s : Scripted) (order : List Act) (p : Publisher) (sums : Sums) → IsBehind s order p → Some sums ≡ family_if_open s order p.event
     → p.writer.published ++ look_of (length order) sums ∷ [] ≡ published_looks s order p.event
 grown-open one-more s order p sums h is =
-    let there = some-by (is_open (stage_in s order) p.event) sums (family_in s order p.event) is in
+    let there = some-open s order p.event sums is in
     (λ i. p.writer.published ++ looks_if (sym there.0 i) (look_of (length order) (there.1 i))) ∙ sym (grown-by one-more s order p h)
 
 pub grown-closed : OneMoreLaw → (s : Scripted) (order : List Act) (p : Publisher) → IsBehind s order p → None ≡ family_if_open s order p.event → HasPublished s order p
 grown-closed one-more s order p h is =
-    let shut : is_open (stage_in s order) p.event ≡ false = none-by (is_open (stage_in s order) p.event) (family_in s order p.event) is in
+    let shut : is_open (stage_in s order) p.event ≡ false = none-open s order p.event is in
     sym (grown-by one-more s order p h ∙ (ap (λ b. p.writer.published ++ looks_if b (look_after s order p.event)) shut ∙ append-nil p.writer.published))
 
 -- the look after a line may be published behind those before it
 pub look-follows : FollowsLaw → (s : Scripted) (order : List Act) (p : Publisher) (sums : Sums) → IsBehind s order p → Some sums ≡ family_if_open s order p.event
     → MayFollow p.writer.published (look_of (length order) sums)
 look-follows follows s order p sums h is =
-    let there = some-by (is_open (stage_in s order) p.event) sums (family_in s order p.event) is in
+    let there = some-open s order p.event sums is in
     let after : look_after s (h.front ++ h.last ∷ []) p.event ≡ look_of (length order) sums =
     ap (λ o. look_after s o p.event) (sym h.order_is) ∙ ap (look_of (length order)) (sym there.1) in
     subst (MayFollow p.writer.published) after

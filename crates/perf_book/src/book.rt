@@ -25,7 +25,7 @@ use crate::looking::look_before;
 use crate::making::count_acts;
 use cpu_sched::Sheet;
 use machine::{Machine, OrderFault};
-use perf_base::{Act, Actor, Answer, EventNo, NoMemory, Script, Steps, Sums};
+use perf_base::{Act, Actor, Answers, EventNo, NoMemory, Script, Steps, Sums};
 use run_end::RingEnd;
 use sample_ring::{Ins, Outs, Rings};
 use std::alloc::Global;
@@ -39,7 +39,7 @@ pub struct Book {
     pub(crate) script: Script,
     pub(crate) machine: Machine,
     pub(crate) order: Vec<Act>,
-    pub(crate) answers: Vec<Answer>,
+    pub(crate) answers: Answers,
     pub(crate) ends: Vec<RingEnd>,
 }
 
@@ -55,28 +55,28 @@ impl Model for Book {
     ghost view = { λ b. record { script = b.script; machine = b.machine; order = b.order.items; answers = b.answers.items } };
 
     ghost invariant = { λ b. IsBooked (record { script = b.script; machine = b.machine; order = b.order.items; answers = b.answers.items })
-        × HasRoomFor b.script (vec_capacity b.order) (vec_capacity b.answers) (vec_capacity b.ends) × (b.ends.items ≡ []) };
+        × HasRoomFor b.script (vec_capacity b.order) b.answers.room (vec_capacity b.ends) × (b.ends.items ≡ []) };
 }
 
 /// Empty lists with room for all acts of a script, for the answers to its lines, and for what its rings come to.
 fn empty_lists(
     alloc: Global,
     script: &Script,
-) -> Result<(Vec<Act>, Vec<Answer>, Vec<RingEnd>), NoMemory>
+) -> Result<(Vec<Act>, Answers, Vec<RingEnd>), NoMemory>
     ensures empty { IfOk result (λ r. (r.0.items ≡ []) × (r.1.items ≡ []) × (r.2.items ≡ [])) }
-    ensures room { IfOk result (λ r. HasRoomFor script.now (vec_capacity r.0) (vec_capacity r.1) (vec_capacity r.2)) }
+    ensures room { IfOk result (λ r. HasRoomFor script.now (vec_capacity r.0) r.1.room (vec_capacity r.2)) }
 {
     let order = Vec::with_capacity(alloc, count_acts(script))?;
-    let answers = Vec::with_capacity(alloc, script.line_count() + 1)?;
+    let answers = Answers::with_room(alloc, script.line_count() as u32 + 1)?;
     let ends = Vec::with_capacity(alloc, script.rings().len())?;
     Ok((order, answers, ends))
 }
 
 impl Book {
-    /// A book whose lines are all still to be done, of a script each of whose processors is of a PMU and of a weight of
-    /// at most 65,536, and of the ends that send of the script's rings, which are new. It takes all memory that the book
-    /// and its machine will need, and fails only where there is not so much; then script and ends are gone. A run by
-    /// threads needs sheets too, and a watched one a page.
+    /// A book whose lines are all still to be done, of a script each of whose processors is of a PMU and of a weight
+    /// of at most 65,536, and of the ends that send of the script's rings, which are new. It takes all memory that the
+    /// book and its machine will need, and fails only where there is not so much; then script and ends are gone. A run
+    /// by threads needs sheets too, and a watched one a page.
     pub fn new(alloc: Global, script: Script, outs: Outs) -> Result<Book, NoMemory>
         requires covered { IsCovered script }
         requires light { weight script ≤ 65536 }

@@ -1,6 +1,6 @@
 //! Lines and acts, with their answers.
 
-ghost use Rattle.std.specs.Prelude.{◌≡◌, ◌<◌, ◌≤◌, true, false, List, [], ◌∷◌, ◌++◌, Some, None, vec_capacity, vec_len};
+ghost use Rattle.std.specs.Prelude.{◌≡◌, ◌<◌, ◌≤◌, true, false, List, [], ◌∷◌, ◌++◌, Some, None, length, vec_capacity, vec_len};
 ghost use Rattle.perf_base.specs.declared.acts.Act.{Act as ActNo};
 ghost use Rattle.perf_base.specs.Scripts.{IsCovered, Scripted};
 ghost use Rattle.perf_base.specs.Weight.{weight};
@@ -16,7 +16,7 @@ ghost use Rattle.perf_book.specs.Sheets.{IsReady, goes_by_plan, sheet_after};
 
 use cpu_sched::Sheet;
 use machine::Machine;
-use perf_base::{Act, Actor, Answer, CpuLine, Reply, RingNo, Script, Steps, StoredReply};
+use perf_base::{Act, Actor, Answer, Answers, CpuLine, Reply, RingNo, Script, Steps};
 use sample_ring::Rings;
 use std::sync::ledger::Ledger;
 
@@ -38,7 +38,7 @@ pub fn do_line<L: Ledger>(
     script: &Script,
     rings: &Rings,
     order: &mut Vec<Act>,
-    answers: &mut Vec<Answer>,
+    answers: &mut Answers,
     actor: Actor,
     sheet: &Sheet,
     tests: &mut Steps<L>,
@@ -50,7 +50,7 @@ pub fn do_line<L: Ledger>(
     requires together { AreTogether rings.now machine.old.outs }
     requires line { HasLine script.now machine.old actor }
     requires order_room { vec_len order.old < vec_capacity order.old }
-    requires answer_room { vec_len answers.old < vec_capacity answers.old }
+    requires answer_room { length answers.old.items < answers.old.room }
     ensures order { order.new.items ≡ order.old.items ++ act_of actor ∷ [] }
     ensures answer { KeepsAnswer (Some (actor, done_by actor machine.old)) machine.old machine.new answers.old.items answers.new.items }
     ensures led { LeadTo script.now order.new.items machine.new }
@@ -58,7 +58,7 @@ pub fn do_line<L: Ledger>(
     ensures loads { loads_of machine.new.outs ≡ loads_of machine.old.outs }
     ensures together { AreTogether rings.now machine.new.outs }
     ensures order_capacity { vec_capacity order.new ≡ vec_capacity order.old }
-    ensures answer_capacity { vec_capacity answers.new ≡ vec_capacity answers.old }
+    ensures answer_capacity { answers.new.room ≡ answers.old.room }
     ensures counted { (x : Step) → next_step script.now machine.old actor ≡ Some x
         → IsCountedBy (Some sheet.now) x machine.old.world machine.new.world tests.old tests.new }
 {
@@ -68,7 +68,7 @@ pub fn do_line<L: Ledger>(
     answers.push_reserved(Answer {
         actor,
         number,
-        reply: StoredReply::new(reply),
+        reply,
     });
 }
 
@@ -85,7 +85,8 @@ pub fn prepare_next(machine: &Machine, script: &Script, actor: Actor, sheet: &mu
     }
 }
 
-/// Whether an actor's next line may go by a plan: it is a processor's, and not work, which tests no counter in any case.
+/// Whether an actor's next line may go by a plan: it is a processor's, and not work, which tests no counter in any
+/// case.
 pub fn goes_by_plan(machine: &Machine, script: &Script, actor: Actor) -> bool
     ensures { result ≡ goes_by_plan (next_step script.now machine.now actor) }
 {
@@ -137,16 +138,16 @@ pub fn line_of(machine: &Machine, act: Act) -> Option<(Actor, u32)>
 }
 
 /// Keeps the answer to a line, where an act did one, in a list that has room for it.
-pub fn keep(answers: &mut Vec<Answer>, line: Option<(Actor, u32)>, reply: Reply)
-    requires { vec_len answers.old < vec_capacity answers.old }
+pub fn keep(answers: &mut Answers, line: Option<(Actor, u32)>, reply: Reply)
+    requires { length answers.old.items < answers.old.room }
     ensures items { answers.new.items ≡ answers.old.items ++ kept line reply }
-    ensures room { vec_capacity answers.new ≡ vec_capacity answers.old }
+    ensures room { answers.new.room ≡ answers.old.room }
 {
     if let Some((actor, number)) = line {
         answers.push_reserved(Answer {
             actor,
             number,
-            reply: StoredReply::new(reply),
+            reply,
         });
     }
 }

@@ -7,7 +7,7 @@ ghost use Rattle.report.specs.Said.{line_start, said};
 
 use crate::line_words::line_word;
 use crate::said::put_reply;
-use perf_base::{Actor, Answer, Reply, Script};
+use perf_base::{Actor, Answer, Answers, Reply, Script};
 use perf_io::{Failed, Sink, write_all, write_numbered};
 
 /// Writes the name of an actor. A reader and a watcher have none.
@@ -96,26 +96,20 @@ fn put_kept<K: Sink>(sink: &mut K, script: &Script, answer: &Answer) -> Result<(
     ensures wrote { Wrote K.shows sink.old sink.new result (answer_line script.now answer.now.actor answer.now.number (answer_text answer.now.reply)) }
     ensures flushed { K.shows.flushed sink.new ≡ K.shows.flushed sink.old }
 {
-    write_answer(
-        sink,
-        script,
-        answer.actor,
-        answer.number,
-        &answer.reply.reply(),
-    )
+    write_answer(sink, script, answer.actor, answer.number, &answer.reply)
 }
 
 /// Writes the lines of answers. Where a call of the sink fails, some front of the lines stays added.
 pub(crate) fn write_answers<K: Sink>(
     sink: &mut K,
     script: &Script,
-    answers: &[Answer],
+    answers: &Answers,
 ) -> Result<(), Failed>
-    ensures wrote { Wrote K.shows sink.old sink.new result (answer_lines script.now answers.now) }
+    ensures wrote { Wrote K.shows sink.old sink.new result (answer_lines script.now answers.now.items) }
     ensures flushed { K.shows.flushed sink.new ≡ K.shows.flushed sink.old }
 {
-    for answer in answers {
-        put_kept(sink, script, answer)?;
+    for place in 0..answers.len() {
+        put_kept(sink, script, &answers.get(place))?;
     }
     Ok(())
 }

@@ -7,7 +7,7 @@ ghost use Rattle.report.specs.Told.{AreTold, rings_of};
 ghost use Rattle.report.specs.Summary as spec;
 
 use crate::records::{count_lost, count_written};
-use perf_base::{Answer, Reply};
+use perf_base::{Answers, Reply};
 use run_end::Ended;
 
 /// What a report sums up to.
@@ -41,12 +41,12 @@ fn first_word(reply: &Reply) -> u64
 }
 
 /// The first words of all reads, added up.
-pub fn sum_first_words(answers: &[Answer]) -> u128
-    ensures { result ≡ sum_by (λ a. spec.first_word a.reply) answers.now }
+pub fn sum_first_words(answers: &Answers) -> u128
+    ensures { result ≡ sum_by (λ a. spec.first_word a.reply) answers.now.items }
 {
     let mut sum = 0;
-    for answer in answers {
-        sum += u128::from(first_word(&answer.reply.reply()));
+    for place in 0..answers.len() {
+        sum += u128::from(first_word(&answers.get(place).reply));
     }
     sum
 }

@@ -6,7 +6,7 @@ ghost use Rattle.stage_spec.specs.Replies.{lines_from};
 ghost use Rattle.sample_ring.specs.RingLists.{HasReader};
 ghost use Rattle.run_end.specs.Ended.{HasTakenAll, IsRan, words_in};
 
-use perf_base::{Act, Answer, RingNo, Script};
+use perf_base::{Act, Answers, RingNo, Script};
 use sample_ring::{Ins, RingNumbers};
 use std::marker::Model;
 
@@ -25,7 +25,7 @@ pub struct RingEnd {
 pub struct Ended {
     script: Script,
     order: Vec<Act>,
-    answers: Vec<Answer>,
+    answers: Answers,
     ends: Vec<RingEnd>,
     ins: Ins,
 }
@@ -45,7 +45,7 @@ impl Ended {
     pub fn new(
         script: Script,
         order: Vec<Act>,
-        answers: Vec<Answer>,
+        answers: Answers,
         ends: Vec<RingEnd>,
         ins: Ins,
     ) -> Ended
@@ -79,10 +79,10 @@ impl Ended {
     }
 
     /// The answers, one to each line that was done, in their order.
-    pub fn answers(&self) -> &[Answer]
-        ensures { result.now ≡ self.now.answers }
+    pub fn answers(&self) -> &Answers
+        ensures { result.now.items ≡ self.now.answers }
     {
-        self.answers.as_slice()
+        &self.answers
     }
 
     /// What the rings came to, by rising number.

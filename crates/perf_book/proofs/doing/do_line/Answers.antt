@@ -13,7 +13,7 @@ returns-clause-answered g c =
     let answers : List Answer = c.args.answers.now.items in
     let act : c.push_reserved.new.self.items ≡ acts ++ act_of c.args.actor ∷ [] = c.push_reserved.ensures.items ∙ ap (λ a. acts ++ a ∷ []) c.act_of.ensures in
     let answer : c.push_reserved-2.new.self.items ≡ answers ++ record { actor = c.args.actor; number = done_by c.args.actor c.args.machine.now; reply = c.line-reply.result } ∷ [] =
-    c.push_reserved-2.ensures.items ∙ (λ i. answers ++ record { actor = c.args.actor; number = c.done-number.ensures i; reply = c.new.ensures i } ∷ []) in
+    c.push_reserved-2.ensures.items ∙ ap (λ n. answers ++ record { actor = c.args.actor; number = n; reply = c.line-reply.result } ∷ []) c.done-number.ensures in
     subst (λ items. AnswerOrder c.args.script.now (lost_in c.args.script.now) items c.push_reserved-2.new.self.items) (sym act)
     (subst (λ items. AnswerOrder c.args.script.now (lost_in c.args.script.now) (acts ++ act_of c.args.actor ∷ []) items) (sym answer)
     (answered-line c.args.script.now acts c.args.machine.now c.args.actor c.line-reply.result answers c.requires.line c.requires.led (c.line-reply.ensures.reply acts c.requires.led) c.requires.answered))

@@ -17,7 +17,7 @@ step-requires-clause-following c = subst (λ (k : Booked). AreFollowing (9 * wei
 pub keep-requires : goal.keep-requires
 keep-requires c =
     let b : Booked = record { script = c.self.inside.script; machine = c.self.inside.machine; order = c.self.inside.order.items; answers = c.self.inside.answers.items } in
-    omega (arith, (room-for-act b _ _ _ c.self.invariant.0 c.self.invariant.1).1, c.self.inside.answers.ok.0)
+    omega (arith, (room-for-act b _ _ _ c.self.invariant.0 c.self.invariant.1).1)
 
 pub push_reserved-requires : goal.push_reserved-requires
 push_reserved-requires c =

@@ -45,7 +45,6 @@ do_line-requires-clause-answer_room g c =
     omega (
       arith,
       room-for-answer b c.args.actor _ _ _ c.self.invariant.0 c.self.invariant.1 (subst (λ (k : Booked). HasLine k.script k.machine c.args.actor) (sym c.self.view_is) c.requires.line),
-      c.self.inside.answers.ok.0,
     )
 
 pub invariant_of-self : goal.invariant_of-self
