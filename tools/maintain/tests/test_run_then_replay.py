@@ -64,7 +64,7 @@ class OfTheProgram(unittest.TestCase):
                 self.check_run(file.read())
 
     def test_the_examples(self) -> None:
-        self.check_cases("examples/*.script", 9)
+        self.check_cases("examples/*.script", 10)
 
     def test_events_that_may_have_other_counters(self) -> None:
         self.check_cases("groups-on-counters/*.script", 20)
