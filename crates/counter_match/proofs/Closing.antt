@@ -34,7 +34,7 @@ wider_held masks counters queue at n place w la lp e can =
         parents = w.parents;
         search = w.search;
         extended = w.extended;
-        closed = IsClosedAt-more at n masks counters w.wide w.closed (λ k. subst H e (IsHeld-reached masks counters w.wide w.parents place w.search ne t));
+        closed = IsClosedAt-more at n masks counters w.wide w.closed (λ k. subst (IsHeld counters w.wide) e (IsHeld-reached masks counters w.wide w.parents place w.search ne t));
       }
       | inr f ↦
           let s : IsSearch masks counters (w.wide ++ place ∷ []) (w.parents ++ at ∷ []) =
@@ -46,14 +46,11 @@ wider_held masks counters queue at n place w la lp e can =
             search = s;
             extended = IsExtended-trans queue w.wide _ w.extended g;
             closed = IsClosedAt-more at n masks counters (w.wide ++ place ∷ []) (IsClosedAt-extended at n masks counters w.wide _ la' g w.closed)
-                (λ k. let K : ℕ → Type 0 = λ c. IsHeld counters (w.wide ++ place ∷ []) c in subst K e
+                (λ k. subst (IsHeld counters (w.wide ++ place ∷ [])) e
                 (IsHeld-reached masks counters _ _ place s ne (any-from_In _ place (record { place = length w.wide; within = omega (arith, length_push w.wide place); is = get_or_push w.wide place 0 (length w.wide) refl }))));
           }
     ]
   where
-    H : ℕ → Type 0
-    H c = IsHeld counters w.wide c
-
     ne : place + 1 ≢ length masks
     ne q = omega arith
 

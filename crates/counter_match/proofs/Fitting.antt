@@ -2,7 +2,7 @@
 use Rattle.std.specs.{Prelude.{◌≢◌, nat_eq}, List.{list_any}}
 use Rattle.std.proofs.Common.{◌≡◌, ℕ, zero, suc, ◌<◌, Bool, true, false, not, ◌&&◌, List, [], ◌∷◌, length, get_or, refl, sym, ap, arith, inl, inr}
 use Rattle.std.proofs.lemmas.Bool.{cases_Bool, and_parts, and_from, not-true, not_from_false, cases_eq, or_parts, or_from, ne_eqb, eqb-false}
-use Rattle.stage_spec.specs.Fits.{can_count, fits_below, fits_beside, fits, IsAssignment}
+use Rattle.stage_spec.{specs.Fits.{can_count, fits_below, fits_beside, fits, IsAssignment}, proofs.Fits.{allowed-cons}}
 
 -- a counter that the first event can take so that the others fit
 pub record Found (others : List ℕ → Bool) (mask : ℕ) (taken : List ℕ) : Type 0 where
@@ -66,11 +66,6 @@ fits_beside-takes (m ∷ ms) taken (c ∷ cs) h =
 -- none of the counters is taken
 pub record Apart (taken counters : List ℕ) : Type 0 where
   pub free : (i : ℕ) → i < length counters → list_any (nat_eq (get_or counters i 0)) taken ≡ false
-
-pub allowed-cons : (m c : ℕ) (ms cs : List ℕ) → can_count m c ≡ true → ((i : ℕ) → i < length ms → can_count (get_or ms i 0) (get_or cs i 0) ≡ true)
-    → (i : ℕ) → i < length (m ∷ ms) → can_count (get_or (m ∷ ms) i 0) (get_or (c ∷ cs) i 0) ≡ true
-allowed-cons m c ms cs h t zero l = h
-allowed-cons m c ms cs h t (suc i) l = t i (omega arith)
 
 pub different-cons : (c : ℕ) (cs : List ℕ) → ((j : ℕ) → j < length cs → c ≢ get_or cs j 0) → ((i j : ℕ) → i < j → j < length cs → get_or cs i 0 ≢ get_or cs j 0)
     → (i j : ℕ) → i < j → j < length (c ∷ cs) → get_or (c ∷ cs) i 0 ≢ get_or (c ∷ cs) j 0

@@ -9,8 +9,11 @@ use Rattle.counter_match.proofs.Lists.{In, In-from_any, any-from_In, AreDifferen
 pub IsExtended-same : (xs : List ℕ) → IsExtended xs xs
 IsExtended-same xs = record { longer = omega arith; same = λ q l. refl }
 
+pub push-left : (xs : List ℕ) (x i : ℕ) → i < length xs → get_or (xs ++ x ∷ []) i 0 ≡ get_or xs i 0
+push-left xs x i l = get_or_append_left xs (x ∷ []) 0 i l
+
 pub IsExtended-push : (xs : List ℕ) (x : ℕ) → IsExtended xs (xs ++ x ∷ [])
-IsExtended-push xs x = record { longer = omega (arith, length_push xs x); same = λ q l. get_or_append_left xs (x ∷ []) 0 q l }
+IsExtended-push xs x = record { longer = omega (arith, length_push xs x); same = push-left xs x }
 
 pub IsExtended-trans : (xs ys zs : List ℕ) → IsExtended xs ys → IsExtended ys zs → IsExtended xs zs
 IsExtended-trans xs ys zs a b = record { longer = omega (arith, a.longer, b.longer); same = λ q l. b.same q (omega (arith, a.longer)) ∙ a.same q l }
@@ -48,38 +51,35 @@ pub IsSearch-push : (masks counters queue parents : List ℕ) (at place : ℕ) �
 IsSearch-push masks counters queue parents at place s la lp new can =
     record {
       some = omega (arith, length_push queue place);
-      first = ap (λ k. k + 1) (left 0 s.some) ∙ s.first;
+      first = ap (λ k. k + 1) (push-left queue place 0 s.some) ∙ s.first;
       parent_each = length_push parents at ∙ (ap (λ k. k + 1) s.parent_each ∙ sym (length_push queue place));
       inside = λ q l. elim (cases_eq q (length queue)) [
         | inl e ↦ rw (last q e) lp
-        | inr ne ↦ let lq : q < length queue = omega (arith, l, length_push queue place) in rw (left q lq) (s.inside q lq)
+        | inr ne ↦ let lq : q < length queue = omega (arith, l, length_push queue place) in rw (push-left queue place q lq) (s.inside q lq)
       ];
       different = λ p q l lq e. elim (cases_eq q (length queue)) [
         | inl f ↦ let lp : p < length queue = omega arith in
-            both_ways _ new (any-from_In queue place (record { place = p; within = lp; is = sym (left p lp) ∙ (e ∙ last q f) }))
+            both_ways _ new (any-from_In queue place (record { place = p; within = lp; is = sym (push-left queue place p lp) ∙ (e ∙ last q f) }))
         | inr ne ↦ let lq' : q < length queue = omega (arith, lq, length_push queue place) in
-            s.different p q l lq' (sym (left p (omega arith)) ∙ (e ∙ left q lq'))
+            s.different p q l lq' (sym (push-left queue place p (omega arith)) ∙ (e ∙ push-left queue place q lq'))
       ];
       earlier = λ q lo l. elim (cases_eq q (length queue)) [
         | inl e ↦ rw (last_parent q e) (omega arith)
         | inr ne ↦ let lq : q < length queue = omega (arith, l, length_push queue place) in rw (left_parent q lq) (s.earlier q lo lq)
       ];
       wanted = λ q lo l. elim (cases_eq q (length queue)) [
-        | inl e ↦ rw (last_parent q e, last q e, left at la) can
+        | inl e ↦ rw (last_parent q e, last q e, push-left queue place at la) can
         | inr ne ↦ let lq : q < length queue = omega (arith, l, length_push queue place) in
             let earlier : get_or parents q 0 < length queue = omega (arith, s.earlier q lo lq) in
-            rw (left_parent q lq, left q lq, left (get_or parents q 0) earlier) (s.wanted q lo lq)
+            rw (left_parent q lq, push-left queue place q lq, push-left queue place (get_or parents q 0) earlier) (s.wanted q lo lq)
       ];
     }
   where
-    left : (q : ℕ) → q < length queue → get_or (queue ++ place ∷ []) q 0 ≡ get_or queue q 0
-    left q l = get_or_append_left queue (place ∷ []) 0 q l
-
     last : (q : ℕ) → q ≡ length queue → get_or (queue ++ place ∷ []) q 0 ≡ place
     last q e = get_or_push queue place 0 q (sym e)
 
     left_parent : (q : ℕ) → q < length queue → get_or (parents ++ at ∷ []) q 0 ≡ get_or parents q 0
-    left_parent q l = get_or_append_left parents (at ∷ []) 0 q (omega (arith, s.parent_each))
+    left_parent q l = push-left parents at q (omega (arith, s.parent_each))
 
     last_parent : (q : ℕ) → q ≡ length queue → get_or (parents ++ at ∷ []) q 0 ≡ at
     last_parent q e = get_or_push parents at 0 q (s.parent_each ∙ sym e)

@@ -2,10 +2,10 @@
 use Rattle.std.specs.{Prelude.{◌≢◌, ◌^◌, ◌==◌, nat_lt, nat_eq, All, if◌then◌else◌}, List.{list_any}, Int.{bit_at}}
 use Rattle.std.proofs.Common.{◌≡◌, ℕ, ◌+◌, ◌<◌, ◌≤◌, true, false, List, [], ◌∷◌, ◌++◌, length, get_or, refl, sym, ap, ◌∙◌, arith, inl, inr, subst}
 use Rattle.std.proofs.lemmas.{Bool.{cases_Bool, cases_eq, cases_lt, both_ways, and_parts, eqb-true}, Nat.Bits.{bit_at_above}}
-use Rattle.std.proofs.lemmas.List.{get_or_push, length_push, get_or_append_left}
+use Rattle.std.proofs.lemmas.List.{get_or_push, length_push}
 use Rattle.stage_spec.specs.Fits.{can_count}
 use Rattle.counter_match.{specs.Search.{IsSearch, IsHeld, IsExtended, IsClosedAt, CanTake}, proofs.Lists.{any-from_In}}
-use Rattle.counter_match.proofs.Growth.{IsExtended-same, IsExtended-push, IsHeld-reached, IsSearch-push, length-le_below}
+use Rattle.counter_match.proofs.Growth.{IsExtended-same, IsExtended-push, IsHeld-reached, IsSearch-push, length-le_below, push-left}
 use Rattle.perf_base.specs.Masks.{IsMask}
 
 -- after an event that has the counter is reached
@@ -23,23 +23,17 @@ IsLooked-reach masks counters queue parents wide wide_parents position place cou
     let Q : List ℕ → Type 0 = λ ys. P wide ys in
     let R : List ℕ → Type 0 = λ xs. P xs (if list_any (nat_eq place) queue then parents else parents ++ position ∷ []) in
     subst Q (sym v) (subst R (sym w) (elim (cases_Bool (list_any (nat_eq place) queue)) [
-      | inl t ↦ rw t (record { search = s; extended = IsExtended-same queue; held = subst H e (IsHeld-reached masks counters queue parents place s ne t) })
+      | inl t ↦ rw t (record { search = s; extended = IsExtended-same queue; held = subst (IsHeld counters queue) e (IsHeld-reached masks counters queue parents place s ne t) })
       | inr f ↦
           let t : IsSearch masks counters (queue ++ place ∷ []) (parents ++ position ∷ []) =
           IsSearch-push masks counters queue parents position place s lp (omega arith) f (ap (can_count (get_or masks (get_or queue position 0) 0)) e ∙ can) in
           rw f (record {
             search = t;
             extended = IsExtended-push queue place;
-            held = subst K e (IsHeld-reached masks counters _ _ place t ne (any-from_In _ place (record { place = length queue; within = omega (arith, length_push queue place); is = get_or_push queue place 0 (length queue) refl })));
+            held = subst (IsHeld counters (queue ++ place ∷ [])) e (IsHeld-reached masks counters _ _ place t ne (any-from_In _ place (record { place = length queue; within = omega (arith, length_push queue place); is = get_or_push queue place 0 (length queue) refl })));
           })
     ]))
   where
-    H : ℕ → Type 0
-    H c = IsHeld counters queue c
-
-    K : ℕ → Type 0
-    K c = IsHeld counters (queue ++ place ∷ []) c
-
     ne : place + 1 ≢ length masks
     ne q = omega arith
 
@@ -50,19 +44,16 @@ length-search_new masks counters queue parents place s lp new =
     (record {
       different = λ i j l m e. elim (cases_eq j (length queue)) [
         | inl f ↦ let li : i < length queue = omega arith in
-            both_ways _ new (any-from_In queue place (record { place = i; within = li; is = sym (left i li) ∙ (e ∙ get_or_push queue place 0 j (sym f)) }))
+            both_ways _ new (any-from_In queue place (record { place = i; within = li; is = sym (push-left queue place i li) ∙ (e ∙ get_or_push queue place 0 j (sym f)) }))
         | inr ne ↦ let lj : j < length queue = omega (arith, m, length_push queue place) in
-            s.different i j l lj (sym (left i (omega arith)) ∙ (e ∙ left j lj))
+            s.different i j l lj (sym (push-left queue place i (omega arith)) ∙ (e ∙ push-left queue place j lj))
       ];
     })
     (λ i l. elim (cases_eq i (length queue)) [
       | inl f ↦ rw (get_or_push queue place 0 i (sym f)) lp
-      | inr ne ↦ let li : i < length queue = omega (arith, l, length_push queue place) in rw (left i li) (s.inside i li)
+      | inr ne ↦ let li : i < length queue = omega (arith, l, length_push queue place) in rw (push-left queue place i li) (s.inside i li)
     ]) in
     omega (arith, l, length_push queue place)
-  where
-    left : (i : ℕ) → i < length queue → get_or (queue ++ place ∷ []) i 0 ≡ get_or queue i 0
-    left i l = get_or_append_left queue (place ∷ []) 0 i l
 
 -- all counters of an event are looked at once those of the processor are
 pub IsClosedAt-all : (at n : ℕ) (masks counters queue parents : List ℕ) → IsSearch masks counters queue parents → at < length queue → All (IsMask n) masks

@@ -55,27 +55,27 @@ get_or-past_split gap xs i l =
     let whole : take gap xs ++ get_or xs gap 0 ∷ drop (suc gap) xs ≡ xs = grind (arith, take, drop_more, get_or, drop, add-one, take-append-drop) in
     get_or-past (take gap xs) (drop (suc gap) xs) (get_or xs gap 0) i ∙ (ap (λ k. get_or (take gap xs ++ get_or xs gap 0 ∷ drop (suc gap) xs) (past k i) 0) n ∙ ap (λ ys. get_or ys (past gap i) 0) whole)
 
+length-around : (before after : List ℕ) (mask : ℕ) → length (before ++ mask ∷ after) ≡ length before + suc (length after)
+length-around before after mask = length-append before (mask ∷ after)
+
 pub fits_without : (before after : List ℕ) (mask : ℕ) (seats : List ℕ) → SeatsAllBut (length before) (before ++ mask ∷ after) seats → fits (before ++ after) ≡ true
 fits_without before after mask seats s =
     fits-IsAssignment (before ++ after) (take g seats ++ drop (suc g) seats) (record {
-      one_each = omega (arith, length-append (take g seats) (drop (suc g) seats), length-take g seats, length-drop (suc g) seats, length-append before after, whole, s.one_each);
+      one_each = omega (arith, length-append (take g seats) (drop (suc g) seats), length-take g seats, length-drop (suc g) seats, length-append before after, length-around before after mask, s.one_each);
       allowed = λ i l.
-          let lp : past g i < length (before ++ mask ∷ after) = omega (arith, past-below g i (length (before ++ after)) l, length-append before after, whole) in
+          let lp : past g i < length (before ++ mask ∷ after) = omega (arith, past-below g i (length (before ++ after)) l, length-append before after, length-around before after mask) in
           allowed_at i lp;
       different = λ i j l m e.
-          let lj : j < length (before ++ after) = omega (arith, m, length-append (take g seats) (drop (suc g) seats), length-take g seats, length-drop (suc g) seats, length-append before after, whole, s.one_each) in
-          let lp : past g j < length seats = omega (arith, past-below g j (length (before ++ after)) lj, length-append before after, whole, s.one_each) in
+          let lj : j < length (before ++ after) = omega (arith, m, length-append (take g seats) (drop (suc g) seats), length-take g seats, length-drop (suc g) seats, length-append before after, length-around before after mask, s.one_each) in
+          let lp : past g j < length seats = omega (arith, past-below g j (length (before ++ after)) lj, length-append before after, length-around before after mask, s.one_each) in
           s.different (past g i) (past g j) (past-increases g i j l) lp (past-ne g i) (past-ne g j) (sym (at i) ∙ (e ∙ at j));
     })
   where
     g : ℕ
     g = length before
 
-    whole : length (before ++ mask ∷ after) ≡ length before + suc (length after)
-    whole = length-append before (mask ∷ after)
-
     at : (i : ℕ) → get_or (take g seats ++ drop (suc g) seats) i 0 ≡ get_or seats (past g i) 0
-    at i = get_or-past_split g seats i (omega (arith, whole, s.one_each))
+    at i = get_or-past_split g seats i (omega (arith, length-around before after mask, s.one_each))
 
     allowed_at : (i : ℕ) → past g i < length (before ++ mask ∷ after) → can_count (get_or (before ++ after) i 0) (get_or (take g seats ++ drop (suc g) seats) i 0) ≡ true
     allowed_at i l =
@@ -86,9 +86,9 @@ pub seats_without : (before after : List ℕ) (mask : ℕ) → fits (before ++ a
 seats_without before after mask h = (
   take g cs ++ 0 ∷ drop g cs,
   record {
-    one_each = omega (arith, length-append (take g cs) (0 ∷ drop g cs), length-take g cs, length-drop g cs, a.one_each, length-append before after, whole);
+    one_each = omega (arith, length-append (take g cs) (0 ∷ drop g cs), length-take g cs, length-drop g cs, a.one_each, length-append before after, length-around before after mask);
     allowed = λ j l ne.
-        let m = met g (length (before ++ after)) j (omega (arith, length-append before after)) (omega (arith, l, length-append before after, whole)) ne in
+        let m = met g (length (before ++ after)) j (omega (arith, length-append before after)) (omega (arith, l, length-append before after, length-around before after mask)) ne in
         allowed_at m.place j m.below m.is;
     different = λ i j l lj ni nj e.
         let same : length (take g cs ++ 0 ∷ drop g cs) ≡ suc (length (before ++ after)) = omega (arith, length-append (take g cs) (0 ∷ drop g cs), length-take g cs, length-drop g cs, a.one_each, length-append before after) in
@@ -106,9 +106,6 @@ seats_without before after mask h = (
 
     a : IsAssignment (before ++ after) cs
     a = (assignment_of (before ++ after) h).1
-
-    whole : length (before ++ mask ∷ after) ≡ length before + suc (length after)
-    whole = length-append before (mask ∷ after)
 
     short : g ≤ length cs
     short = omega (arith, a.one_each, length-append before after)

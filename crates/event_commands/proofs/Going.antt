@@ -1,18 +1,18 @@
 -- Instances that go one after the other: what each leaves, and what all leave.
-use Rattle.std.specs.{Prelude.{◌≡◌, ◌+◌, ◌≤◌, true, false, ◌&&◌, List, [], ◌∷◌, ◌++◌, map, Some, slice_set, if◌then◌else◌}, FinMap.{FinMap, get}}
+use Rattle.std.specs.{Prelude.{◌≡◌, ◌≤◌, true, false, ◌&&◌, List, [], ◌∷◌, ◌++◌, map, Some, slice_set, if◌then◌else◌}, FinMap.{FinMap, get}}
 use Rattle.std.{specs.{List.{fold}, Option.{unwrap_or}, Ordering.{nat_cmp}}, proofs.Common.{arith, refl, sym, ap, subst, ◌∙◌, inl, inr}}
 use Rattle.std.proofs.lemmas.{Bool.{cases_eq, cases_Bool, false≢true}, List.{map-append, Sums.{fold-append}}}
 use Rattle.perf_base.specs.declared.{numbers.{EventNo.{EventNo}, Key.{Key}}, standing.Standing.{Standing}}
 use Rattle.perf_base.specs.declared.standing.Standing.TheVariants as standing
 use Rattle.stage_spec.specs.Hardware.{Hardware}
-use Rattle.stage_laws.{specs.OneByOne.{drop_one, drop_ones}, proofs.Counts.{count-append}}
+use Rattle.stage_laws.{specs.OneByOne.{drop_one, drop_ones}}
 use Rattle.world_spec.specs.{Value.{World, is_live, entry_at, instance_at, standing_at, family_of, is_key, times}, StageOf.{after_first, stage_of}}
 use Rattle.world_spec.specs.{Kept.{is_member_of, leads, post_at, IsKept}, Adding.{drop_instance, leave_group, out_of_family, taken_out}}
 use Rattle.world_spec.{specs.{Goings.{MayGo}, Staying.{HasGone}}, proofs.Disbanding.{AreSiblings, Disbands, member-led, member-live}}
 use Rattle.world_spec.proofs.{Dropping.{it-leads}, Gone.{get-left, left-goes, left_world}}
 use Rattle.world_spec.proofs.GoneLeader.{AreFreed, dropped-leader, entries_freed, freed_standings, led-disbands, led_world, siblings-stand, standings_freed, tables-freed}
 use Rattle.world_spec.proofs.{GoneLeaderStage.{map-within}, Keys.{key-is, is_key-same, is_key-other, is_key-true, once-true, once-false, times-cons}}
-use Rattle.world_spec.proofs.{Moving.{leads-parts}, Staying.{go-stays}, Tables.{get-here, get-there}}
+use Rattle.world_spec.proofs.{Moving.{leads-parts}, Staying.{go-stays}, Tables.{get-here}}
 use Rattle.event_commands.specs.Closing.{HaveGone, IsThinned, stood}
 use Rattle.world_spec.proofs.WaysGone.{standing-left}
 use Rattle.perf_world.proofs.Turning.{both-times}

@@ -1,6 +1,6 @@
 -- The keys of a family and of some families are those of the instances that are reached.
-use Rattle.std.specs.Prelude.{◌≡◌, ℕ, ◌+◌, ◌≤◌, ◌==◌, Bool, true, false, not, ◌&&◌, ◌||◌, List, [], ◌∷◌}
-use Rattle.std.proofs.{Common.{arith, refl, sym, ◌∙◌, inl, inr}, lemmas.Bool.{cases_Bool, cases_eq, false≢true, Decides.{nat_tests}}}
+use Rattle.std.specs.Prelude.{◌≡◌, ◌+◌, ◌≤◌, ◌==◌, Bool, true, false, not, ◌&&◌, List, [], ◌∷◌}
+use Rattle.std.proofs.{Common.{arith, refl, ◌∙◌, inl, inr}, lemmas.Bool.{cases_Bool, cases_eq, or_left, or_right, false≢true, Decides.{nat_tests}}}
 use Rattle.perf_base.specs.declared.numbers.{EventNo.{EventNo}, Key.{Key}}
 use Rattle.stage_spec.specs.{Commands.{is_reached}, Hardware.{Hardware}}
 use Rattle.stage_laws.proofs.Counts.{count-append}
@@ -9,7 +9,6 @@ use Rattle.world_spec.proofs.{Coming.{number_true}, Keys.{once-true}, Moving.{le
 use Rattle.event_commands.specs.Changing.{family_keys, keys_named}
 use Rattle.world_spec.proofs.Along.{once-both}
 use Rattle.world_spec.proofs.Tables.{same_number}
-use Rattle.world_spec.proofs.Added.{or-left}
 use Rattle.world_spec.proofs.Counting.{any-rest}
 
 both-kinds : (a b c : Bool) → once_if (a && b && not c) + once_if (a && b && c) ≡ once_if (a && b)
@@ -29,18 +28,14 @@ pub at-family : (hw : Hardware) (w : World) (e : EventNo) (k : Key) → IsKept h
 at-family hw w e k h live same = grind (arith, nat_tests, family-count, once-true)
 
 -- and in some families where it is reached
-second-or : (a b : Bool) → b ≡ true → (a || b) ≡ true
-second-or true b h = refl
-second-or false b h = h
-
 pub named-reached : (hw : Hardware) (w : World) (events : List EventNo) (k : Key) → IsKept hw w → 1 ≤ times k (keys_named w events)
     → (is_live w k ≡ true) × (is_reached events (instance_at w k) ≡ true)
 named-reached hw w [] k h some = absurd (omega (arith, some))
 named-reached hw w (e ∷ events) k h some = elim (cases_eq (times k (family_keys w e)) 0) [
   | inl none ↦
       let rest = named-reached hw w events k h (omega (arith, some, none, count-append (is_key k) (family_keys w e) (keys_named w events))) in
-      (rest.0, second-or ((instance_at w k).event.0 == e.0) (is_reached events (instance_at w k)) rest.1)
-  | inr more ↦ grind (arith, nat_tests, in-family, more, or-left, same_number)
+      (rest.0, or_right ((instance_at w k).event.0 == e.0) (is_reached events (instance_at w k)) rest.1)
+  | inr more ↦ grind (arith, nat_tests, in-family, more, or_left, same_number)
 ]
 
 pub reached-named : (hw : Hardware) (w : World) (events : List EventNo) (k : Key) → IsKept hw w → is_live w k ≡ true → is_reached events (instance_at w k) ≡ true → 1 ≤ times k (keys_named w events)

@@ -2,7 +2,7 @@
 -- families on the stage.
 use Rattle.std.specs.Prelude.{◌≡◌, ℕ, ◌+◌, ◌^◌, ◌<◌, ◌≤◌, ◌==◌, suc, max, Bool, true, false, ◌&&◌, ◌||◌, bit_or, List, [], ◌∷◌, ◌++◌, length, take, Option, Some, None, slice_index_or, if◌then◌else◌}
 use Rattle.std.{specs.{Int.{bit_at}, List.{list_any}}, proofs.{Common.{arith, refl, sym, ap, ◌∙◌, inl, inr, take_all}, Math.Seq.{take-suc}}}
-use Rattle.std.proofs.lemmas.{Bool.{cases_eq, false≢true, Decides.{nat_tests}}, Grind.{flat_map-append}, List.{append-nil}}
+use Rattle.std.proofs.lemmas.{Bool.{and_parts, cases_eq, false≢true, Decides.{nat_tests}}, Grind.{flat_map-append}, List.{append-nil}}
 use Rattle.std.proofs.lemmas.{List.Folds.{list_any-append}, Nat.Bits.{bit_at_or, bit_at-zero, bit_at-lt, bit_at-pow_same, bit_at-pow_other}}
 use Rattle.perf_base.specs.declared.numbers.{CpuNo.{CpuNo}, CpuSet.{CpuSet}, EventNo.{EventNo}, Key.{Key}}
 use Rattle.stage_spec.specs.Hardware.{has_cpu}
@@ -17,10 +17,6 @@ one-more b n is low = grind (arith, nat_tests, is, low)
 no-more : (b n : ℕ) → n ≡ max b 0 → n ≡ b
 no-more b n is = grind (arith, is)
 
-second : (a b : Bool) → (a && b) ≡ true → b ≡ true
-second true b h = h
-second false b h = absurd (false≢true h)
-
 inserted : (w : World) (k : Key) (set now : CpuSet) (c : CpuNo) → is_reaching w c k ≡ true → ((cpu : CpuNo) → is_reaching w cpu k ≡ true → cpu.0 ≡ c.0)
     → now.0 ≡ bit_or set.0 (2 ^ c.0) → AddsReaching w (k ∷ []) set now
 inserted w k set now c has only is cpu = elim (cases_eq cpu.0 c.0) [
@@ -31,7 +27,7 @@ inserted w k set now c has only is cpu = elim (cases_eq cpu.0 c.0) [
 -- a processor is added where the machine has it
 added-by : (w : World) (k : Key) (set now : CpuSet) (c : CpuNo) (b : Bool) → is_there w c ≡ b → reaches_key w c k ≡ true → ((cpu : CpuNo) → reaches_key w cpu k ≡ true → cpu.0 ≡ c.0)
     → now.0 ≡ (if b then bit_or set.0 (2 ^ c.0) else set.0) → AddsReaching w (k ∷ []) set now
-added-by w k set now c true there has only is cpu = inserted w k set now c (λ i. there i && has i) (λ cpu mine. only cpu (second (is_there w cpu) (reaches_key w cpu k) mine)) is cpu
+added-by w k set now c true there has only is cpu = inserted w k set now c (λ i. there i && has i) (λ cpu mine. only cpu (and_parts (is_there w cpu) (reaches_key w cpu k) mine).1) is cpu
 added-by w k set now c false there has only is cpu =
     ap (λ n. bit_at n cpu.0 == 1) is
     ∙ sym (ap (λ b. (b || false) || has_cpu cpu.0 set) (none (is_there w cpu) (reaches_key w cpu k) (λ in_it reached. false≢true (sym there ∙ (ap (λ n. is_there w (record { 0 = n })) (sym (only cpu reached)) ∙ in_it)))))

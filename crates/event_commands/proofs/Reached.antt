@@ -1,6 +1,6 @@
 -- The processors that reach some families on the stage are those that reach the instances of their keys.
 use Rattle.std.specs.{Prelude.{◌≡◌, ℕ, ◌+◌, ◌<◌, ◌≤◌, ◌==◌, ◌↔◌, Bool, true, false, ◌&&◌, List, [], ◌∷◌, ◌++◌, length, map, flat_map}, Int.{bit_at}}
-use Rattle.std.{specs.List.{list_any}, proofs.{Common.{arith, refl, sym, ap, ◌∙◌, inl, inr}, lemmas.Bool.{cases_eq, cases_Bool, false≢true}}}
+use Rattle.std.{specs.List.{list_any}, proofs.{Common.{arith, refl, sym, ap, ◌∙◌, inl, inr}, lemmas.Bool.{and_parts, cases_eq, cases_Bool, eq-eqb}}}
 use Rattle.std.proofs.lemmas.Bool.Decides.{nat_tests}
 use Rattle.perf_base.specs.{Cpus.{HasCpu}, declared.numbers.{CpuNo.{CpuNo}, CpuSet.{CpuSet}, EventNo.{EventNo}, Key.{Key}}}
 use Rattle.perf_base.specs.declared.standing.Context.{Context}
@@ -9,7 +9,7 @@ use Rattle.stage_spec.specs.{Commands.{is_reached}, Hardware.{Hardware, has_cpu}
 use Rattle.stage_laws.{specs.Narrowing.{has_context, reaches}, proofs.{Counts.{count-append}, OneByOne.{map-none}, Tasks.{is_task-some}}}
 use Rattle.stage_laws.proofs.Totals.{total-cons, total-nil}
 use Rattle.world_spec.specs.{Value.{World, Leaders, leaders_of, is_live, entry_at, instance_at, is_key, times}, StageOf.{group_at, stage_of}}
-use Rattle.world_spec.specs.{Kept.{is_member_of, leads, once_if, post_at, IsKept}, Listings.{pass_leaders, task_leaders}}
+use Rattle.world_spec.specs.{Kept.{is_member_of, leads, post_at, IsKept}, Listings.{pass_leaders, task_leaders}}
 use Rattle.world_spec.proofs.{Coming.{number_true}, Counting.{any-key, any-there, times-flat}}
 use Rattle.world_spec.proofs.Families.{leaders_both, leaders-at, members_at, members-are}
 use Rattle.world_spec.proofs.Keys.{key-is, is_key-same, is_key-true, once-true, once-false, times-cons}
@@ -53,9 +53,6 @@ four own task = own.pinned ++ (task.pinned ++ (own.flexible ++ (task.flexible ++
 four-times : (q : Key) (own task : Leaders) → times q (four own task) ≡ times q (leaders_both own) + times q (leaders_both task)
 four-times q own task = grind (arith, nat_tests, times-flat, total-cons, total-nil, count-append)
 
-own_place : (n : ℕ) → (n == n) ≡ true
-own_place n = grind (arith, nat_tests)
-
 leader-listed : (hw : Hardware) (w : World) (cpu : CpuNo) (q : Key) (c : Context) → IsKept hw w → leads (post_at w) q ≡ true → (entry_at w q).context ≡ c
     → has_context (stage_of w) cpu c ≡ true → 1 ≤ times q (reached_leaders w cpu)
 leader-listed hw w cpu q (context.Processor other) h lead is has =
@@ -63,12 +60,12 @@ leader-listed hw w cpu q (context.Processor other) h lead is has =
     let task : Leaders = task_leaders w (task_on (stage_of w) cpu) in
     let place : ℕ = place_of (context.Processor cpu) in
     let same : place_of (entry_at w q).context ≡ place = ap place_of is ∙ ap (λ n. place_of (context.Processor (record { 0 = n }))) (number_true other.0 cpu.0 has) in
-    let here : (leads (post_at w) q && place_of (entry_at w q).context == place) ≡ true = ap (λ b. b && place_of (entry_at w q).context == place) lead ∙ (ap (λ n. n == place) same ∙ own_place place) in
+    let here : (leads (post_at w) q && place_of (entry_at w q).context == place) ≡ true = ap (λ b. b && place_of (entry_at w q).context == place) lead ∙ (ap (λ n. n == place) same ∙ eq-eqb place place refl) in
     omega (arith, four-times q own task, leaders-at hw w h q place, once-true (leads (post_at w) q && place_of (entry_at w q).context == place) here)
 leader-listed hw w cpu q (context.Task t) h lead is has =
     let own : Leaders = leaders_of w (context.Processor cpu) in
     let place : ℕ = 8 + t.0 in
-    let here : (leads (post_at w) q && place_of (entry_at w q).context == place) ≡ true = ap (λ b. b && place_of (entry_at w q).context == place) lead ∙ (ap (λ x. place_of x == place) is ∙ own_place place) in
+    let here : (leads (post_at w) q && place_of (entry_at w q).context == place) ≡ true = ap (λ b. b && place_of (entry_at w q).context == place) lead ∙ (ap (λ x. place_of x == place) is ∙ eq-eqb place place refl) in
     let lists : times q (four own (task_leaders w (task_on (stage_of w) cpu))) ≡ times q (four own (leaders_of w (context.Task t))) =
     ap (λ o. times q (four own (task_leaders w o))) (is_task-some (task_on (stage_of w) cpu) t has) in
     omega (
@@ -146,10 +143,6 @@ out-of_set : (set : CpuSet) (cpu : CpuNo) (b : Bool) → has_cpu cpu.0 set ≡ b
 out-of_set set cpu true is out = absurd (out ((in-set set cpu true is).1 refl))
 out-of_set set cpu false is out = refl
 
-first-true : (a b : Bool) → (a && b) ≡ true → a ≡ true
-first-true true b h = refl
-first-true false b h = absurd (false≢true h)
-
 pub answered : (hw : Hardware) (w : World) (events named : List EventNo) (set : CpuSet) → IsKept hw w → AreReaching w (keys_named w events) set → events ≡ named → AreReached named w set
 answered hw w events named set h are same = record {
   reaching = λ cpu low.
@@ -157,8 +150,8 @@ answered hw w events named set h are same = record {
       (set-reaches hw w events named set cpu h are same ∙ ap (λ b. b && reaches (stage_of w) named cpu) (is-there w cpu low));
   within = λ cpu has.
       there-low w cpu
-      (first-true (is_there w cpu) (reaches (stage_of w) named cpu)
-      ((in-set set cpu (is_there w cpu && reaches (stage_of w) named cpu) (set-reaches hw w events named set cpu h are same)).0 has));
+      (and_parts (is_there w cpu) (reaches (stage_of w) named cpu)
+      ((in-set set cpu (is_there w cpu && reaches (stage_of w) named cpu) (set-reaches hw w events named set cpu h are same)).0 has)).0;
 }
 
 pub not-answered : (hw : Hardware) (w : World) (events named : List EventNo) (set : CpuSet) (cpu : CpuNo) → IsKept hw w → AreReaching w (keys_named w events) set → events ≡ named

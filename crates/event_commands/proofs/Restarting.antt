@@ -9,8 +9,8 @@ use Rattle.stage_spec.proofs.Recurrence.{plus-none}
 use Rattle.world_spec.specs.{Kept.{IsKept, post_at}, StageOf.{stage_of}, Stepping.{HasItsShare}}
 use Rattle.world_spec.specs.Value.{World, is_live, instance_at, account_at, family_of}
 use Rattle.world_spec.proofs.{Families.{stands-original}, Keys.{key-is, is_key-other, times-cons, once-false}, Lines.{KeepsSlots}, Quiet.{none-after}}
-use Rattle.world_spec.proofs.{Stepping.{instance-found}, Tables.{posts-same}}
-use Rattle.event_commands.{specs.Commands.{HasPeriod}, proofs.{Families.{not-copy}, Found.{found-passes, is-number}, Targets.{original-in}}}
+use Rattle.world_spec.proofs.{Stepping.{instance-found}, Tables.{posts-same, same_number}}
+use Rattle.event_commands.{specs.Commands.{HasPeriod}, proofs.{Families.{not-copy}, Found.{found-passes}, Targets.{original-in}}}
 
 -- the posts of the instances are as they were
 posts-stay : (w new : World) (e : EventNo) (period : ℕ) → IsKept w.hardware w → HasPeriod e period w new → post_at new ≡ post_at w
@@ -34,7 +34,7 @@ period-slots w new e period h given = record {
 
 -- of all live instances it is the original alone
 is-its : (e : EventNo) (i : Instance) → i.event ≡ e → i.copy ≡ false → is_original e i ≡ true
-is-its e i same first = grind (arith, is-number)
+is-its e i same first = grind (arith, same_number)
 
 not-its : (w : World) (e : EventNo) (k original : Key) → IsKept w.hardware w → is_live w k ≡ true → (family_of w e).original ≡ Some original → k.0 ≢ original.0
     → is_original e (instance_at w k) ≡ false

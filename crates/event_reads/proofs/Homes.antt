@@ -1,11 +1,11 @@
 -- On which processor a context is, and that a group is out on every other one.
 use Rattle.std.specs.Prelude.{◌≡◌, ℕ, ◌≤◌, ◌==◌, Bool, true, false, List, [], ◌∷◌, map, filter, flat_map, count_by}
-use Rattle.std.proofs.{Common.{arith, refl, sym, ap, ◌∙◌}, lemmas.Bool.{false≢true}}
+use Rattle.std.proofs.{Common.{arith, sym, ap, ◌∙◌}, lemmas.Bool.{false≢true}}
 use Rattle.perf_base.specs.declared.{numbers.{CpuNo.{CpuNo}, Key.{Key}}, standing.Context.{Context}}
 use Rattle.perf_base.specs.declared.standing.Context.TheVariants as context
 use Rattle.perf_base.specs.declared.standing.Standing.TheVariants as standing
 use Rattle.stage_spec.specs.{Hardware.{Hardware}, Stage.{Stage, Group, task_on}, Verdict.{is_eligible, passes, verdicts, standing_of}}
-use Rattle.stage_laws.{specs.Narrowing.{has_context}, proofs.{Counts.{count-append, count-cons, count-filter}, Tasks.{is_task-some, runs-within}}}
+use Rattle.stage_laws.{specs.Narrowing.{has_context}, proofs.{Counts.{count-append, count-filter}, Tasks.{is_task-some, runs-within}}}
 use Rattle.world_spec.specs.{Kept.{leads, post_at, IsKept}, Listings.{pass_leaders}, Rescheduled.{IsRescheduled}, StageOf.{group_at, stage_of}}
 use Rattle.world_spec.{specs.Value.{World, entry_at, instance_at, is_live}, proofs.Coming.{number_true}}
 use Rattle.world_spec.proofs.Listings.{count-none, passes-are, reached_leaders, reached-context, reached-leading}

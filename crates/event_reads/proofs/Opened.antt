@@ -1,8 +1,7 @@
 -- What is asked of an event goes by the key of its original.
-use Rattle.std.{specs.Prelude.{◌≡◌, not, [], ◌∷◌, is_some, Option, Some, None, option_map}, proofs.Common.{sym, ap, ◌∙◌}}
+use Rattle.std.{specs.Prelude.{◌≡◌, is_some, Option, Some, option_map}, proofs.Common.{sym, ap, ◌∙◌}}
 use Rattle.perf_base.specs.declared.numbers.{EventNo.{EventNo}, Key.{Key}}
-use Rattle.perf_base.specs.declared.reasons.Reason.TheVariants as reason
-use Rattle.stage_spec.specs.{Commands.{closed_refusal}, Effective.{state_in}, Hardware.{Hardware}, Refusals.{first_of}}
+use Rattle.stage_spec.specs.{Effective.{state_in}, Hardware.{Hardware}}
 use Rattle.stage_spec.specs.{Replies.{why_of, why_by, why_in}, Stage.{group_of, is_open, original_of}}
 use Rattle.world_spec.specs.{Kept.{IsKept}, StageOf.{group_at, stage_of}, Value.{World, entry_at, instance_at, family_of}}
 use Rattle.world_spec.proofs.Families.{group-is, open-is, original-is}
@@ -10,12 +9,6 @@ use Rattle.world_spec.proofs.Families.{group-is, open-is, original-is}
 -- the slot is open where there is one
 pub is-open : (hw : Hardware) (w : World) (e : EventNo) (o : Option Key) → IsKept hw w → (family_of w e).original ≡ o → is_open (stage_of w) e ≡ is_some o
 is-open hw w e o h is = open-is hw w e h ∙ ap is_some is
-
-pub refuses-closed : (hw : Hardware) (w : World) (e : EventNo) → IsKept hw w → (family_of w e).original ≡ None → closed_refusal (stage_of w) e ≡ Some reason.NoEvent
-refuses-closed hw w e h is = ap (λ b. first_of ((reason.NoEvent, not b) ∷ [])) (is-open hw w e None h is)
-
-pub accepts-open : (hw : Hardware) (w : World) (e : EventNo) (k : Key) → IsKept hw w → (family_of w e).original ≡ Some k → closed_refusal (stage_of w) e ≡ None
-accepts-open hw w e k h is = ap (λ b. first_of ((reason.NoEvent, not b) ∷ [])) (is-open hw w e (Some k) h is)
 
 -- its original, and its group
 pub original-at : (hw : Hardware) (w : World) (e : EventNo) (k : Key) → IsKept hw w → (family_of w e).original ≡ Some k → original_of (stage_of w) e ≡ Some (instance_at w k)

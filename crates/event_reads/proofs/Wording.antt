@@ -1,15 +1,14 @@
 -- How many words a read gives does not go by what was counted, and a group's words go by the keys of its members.
-use Rattle.std.specs.Prelude.{◌≡◌, ℕ, ◌+◌, ◌*◌, suc, nat_lt, Bool, true, false, not, List, [], ◌∷◌, ◌++◌, length, flat_map, Option, Some, None, All, slice_index_or, if◌then◌else◌}
-use Rattle.std.proofs.{Common.{arith, refl, ap, sym, ◌∙◌, inl, inr, length-append}, lemmas.{Bool.{cases_Bool}, List.{length-map}}}
+use Rattle.std.specs.Prelude.{◌≡◌, ℕ, ◌+◌, ◌*◌, suc, nat_lt, Bool, true, false, not, List, [], ◌∷◌, ◌++◌, length, flat_map, Option, Some, None, if◌then◌else◌}
+use Rattle.std.proofs.{Common.{arith, refl, ap, sym, ◌∙◌, length-append}, lemmas.{List.{length-map}}}
 use Rattle.std.proofs.lemmas.List.Folds.{flat_map-map}
 use Rattle.perf_base.specs.declared.{numbers.{EventNo.{EventNo}, Key.{Key}}, reasons.Reason.{Reason}, reply.Sums.{Sums}}
 use Rattle.perf_base.specs.declared.reasons.Reason.TheVariants as reason
 use Rattle.stage_spec.specs.{declared.instance.Instance.{Instance}, Effective.{state_in}, Hardware.{Hardware}}
 use Rattle.stage_spec.specs.Reading.{times_of, marks_of, is_error, word_count, read_refusal, read_words, read_words_of, words_by, words_in, words_of_group, words_of_member, words_unless_error}
 use Rattle.stage_spec.specs.{Refusals.{first_of, holds_of}, Stage.{Stage, Group, group_of, original_of}}
-use Rattle.world_spec.specs.{Kept.{IsKept, is_member_of, leads, post_at}, StageOf.{group_at, stage_of}}
-use Rattle.world_spec.{specs.Value.{World, entry_at, instance_at, is_live, family_of}, proofs.{Copies.{times-at}, Families.{group-members}}}
-use Rattle.world_spec.proofs.Keys.{once-false}
+use Rattle.world_spec.specs.{Kept.{IsKept, leads, post_at}, StageOf.{group_at, stage_of}}
+use Rattle.world_spec.{specs.Value.{World, entry_at, instance_at, family_of}, proofs.{Families.{group-members}}}
 use Rattle.event_reads.{specs.Counted.{sums_in, lost_in, words_of_key}, proofs.Opened.{group-by, is-open, original-at}}
 
 -- the words of a group, by the keys of its members
@@ -22,17 +21,6 @@ group-words hw w format leader h lead = grind (arith, length-map, flat_map-map, 
 pub joined-words : (format : ℕ) (f : Key → List ℕ) (keys all : List Key) (sums leads : Sums) (none first timed last : List ℕ) → none ≡ [] → first ≡ none ++ length keys ∷ []
     → timed ≡ first ++ times_of format sums → last ≡ timed ++ flat_map f keys → keys ≡ all → sums ≡ leads → last ≡ length all ∷ times_of format leads ++ flat_map f all
 joined-words format f keys all sums leads none first timed last a b c d same has = grind arith
-
--- the members are there
-pub members-live : (hw : Hardware) (w : World) (leader : Key) → IsKept hw w → All (λ k. is_live w k ≡ true) (entry_at w leader).members
-members-live hw w leader h i d low =
-    let k : Key = slice_index_or (entry_at w leader).members i d in
-    elim (cases_Bool (is_live w k)) [
-      | inl live ↦ live
-      | inr dead ↦
-          let no : is_member_of (post_at w) leader k ≡ false = cc dead in
-          absurd (omega (arith, times-at (entry_at w leader).members i d low, h.linked.members k leader, once-false (is_member_of (post_at w) leader k) no))
-    ]
 
 -- as many words for other sums and ids
 asked-by : (b : Bool) (v u : ℕ) → length (if b then v ∷ [] else []) ≡ length (if b then u ∷ [] else [])

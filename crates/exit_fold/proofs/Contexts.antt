@@ -1,15 +1,12 @@
 -- How often a key is among those of a context, and a task's context by its place.
-use Rattle.std.specs.Prelude.{◌≡◌, ℕ, ◌+◌, ◌<◌, ◌==◌, false, ◌&&◌, cond, List, flat_map, slice_index_or}
-use Rattle.std.proofs.{Common.{arith, ◌∙◌, inl, inr}, lemmas.Bool.{cases_Bool, Decides.{nat_tests}}}
-use Rattle.perf_base.specs.declared.{numbers.{Key.{Key}, TaskNo.{TaskNo}}, standing.Context.{Context}}
+use Rattle.std.specs.Prelude.{◌≡◌, ℕ, ◌+◌, ◌<◌, ◌==◌}
+use Rattle.std.proofs.{Common.{arith}, lemmas.Bool.{Decides.{nat_tests}}}
+use Rattle.perf_base.specs.declared.{numbers.{TaskNo.{TaskNo}}, standing.Context.{Context}}
 use Rattle.perf_base.specs.declared.standing.Context.TheVariants as context
-use Rattle.stage_spec.specs.{Hardware.{Hardware}, Stage.{place_of}}
-use Rattle.stage_laws.proofs.{Others.{place-cases}, Totals.{one_if, total-same, total-none, count_by-is-total}}
-use Rattle.world_spec.{specs.{Value.{World, no_leaders, is_live, entry_at, is_key, times}, Kept.{once_if, IsKept}}, proofs.Counting.{times-flat}}
-use Rattle.world_spec.proofs.{Families.{leaders_both, leaders-at, members_at}, Keys.{is_key-turned}}
+use Rattle.stage_spec.specs.{Stage.{place_of}}
+use Rattle.stage_laws.proofs.{Others.{place-cases}}
 use Rattle.exit_fold.specs.Leaving.{is_of_task}
 use Rattle.world_spec.proofs.Tables.{other_number}
-use Rattle.world_spec.proofs.Listings.{held-by, keys-at}
 
 -- how often a key is among those of a context
 -- a task's context by its place

@@ -1,20 +1,17 @@
 -- Copies by their families and contexts, and sums by keys.
-use Rattle.std.specs.Prelude.{◌≡◌, ℕ, ◌≤◌, ◌==◌, Bool, true, false, ◌&&◌, cond, List, [], ◌∷◌, filter, Some}
-use Rattle.std.proofs.{Common.{arith, refl, sym, ap, ◌∙◌}, lemmas.Bool.{false≢true, Decides.{nat_tests}}}
+use Rattle.std.specs.Prelude.{◌≡◌, ◌≤◌, ◌==◌, Bool, true, false, ◌&&◌, cond, List, [], ◌∷◌, filter, Some}
+use Rattle.std.proofs.{Common.{arith, refl, ap, ◌∙◌}, lemmas.Bool.{false≢true, Decides.{nat_tests}}}
 use Rattle.perf_base.specs.declared.{numbers.{EventNo.{EventNo}, Key.{Key}, TaskNo.{TaskNo}}, reply.Sums.{Sums}, standing.Context.{Context}}
 use Rattle.perf_base.specs.declared.standing.Context.TheVariants as context
 use Rattle.stage_spec.specs.{Families.{plus}, Hardware.{Hardware}}
-use Rattle.stage_laws.proofs.Totals.{total, total-nil, total-cons}
-use Rattle.world_spec.specs.Value.{World, is_live, entry_at, instance_at, family_of, is_key, times}
-use Rattle.world_spec.{specs.Kept.{once_if, plus_keys, IsKept}, proofs.Accounts.{IsSum, counts_are_sums, times_are_sums}}
-use Rattle.world_spec.proofs.{Counting.{times-filter, AreSameKeys, same-total}, Folding.{run_times_are_sums}}
-use Rattle.world_spec.proofs.Keys.{is_key-same, times-cons, once-true}
+use Rattle.world_spec.specs.Value.{World, is_live, entry_at, instance_at, family_of, times}
+use Rattle.world_spec.{specs.Kept.{once_if, IsKept}}
+use Rattle.world_spec.proofs.{Counting.{times-filter}}
 use Rattle.exit_fold.specs.Leaving.{is_of_task, leaves, leaving_copies}
 use Rattle.world_spec.proofs.Along.{once-both, filter-no}
 use Rattle.world_spec.proofs.Coming.{number_true}
 use Rattle.perf_world.proofs.Room.{three-true}
 use Rattle.world_spec.proofs.Working.{filter-same}
-use Rattle.world_spec.proofs.Families.{sums-total, same-sums}
 
 -- a key among the copies of an event
 pub copy-there : (hw : Hardware) (w : World) (k : Key) (e : EventNo) → IsKept hw w → 1 ≤ times k (family_of w e).copies

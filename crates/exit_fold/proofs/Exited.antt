@@ -1,29 +1,20 @@
 -- An exit after the copies were folded: the task has exited, its processor is idle, and other processors stand as they
 -- stood.
 use Rattle.std.specs.Prelude.{◌≡◌, ◌≢◌, ◌<◌, true, false, ◌&&◌, Some, None, slice_index_or}
-use Rattle.std.proofs.{Common.{arith, refl, sym, ap, subst, ◌∙◌, inl, inr}, lemmas.Bool.{cases_lt, false≢true}}
-use Rattle.std.proofs.lemmas.List.{get_or-set_other, get_or_past}
+use Rattle.std.proofs.{Common.{arith, refl, sym, ap, subst, ◌∙◌}, lemmas.Bool.{false≢true}}
+use Rattle.std.proofs.lemmas.List.{get_or-set_other}
 use Rattle.perf_base.specs.declared.{numbers.{CpuNo.{CpuNo}, TaskNo.{TaskNo}}, standing.Context.{Context}}
 use Rattle.perf_base.specs.declared.standing.Context.TheVariants as context
 use Rattle.stage_spec.specs.{declared.instance.TaskState.{TaskState}, Closing.{without}, Exits.{exited, exited_by}, Hardware.{Hardware}}
-use Rattle.stage_spec.specs.Stage.{Stage, task_on, status_of, unknown_task, is_live as is_live_task, is_copy, is_task, set_running, set_status}
+use Rattle.stage_spec.specs.Stage.{Stage, task_on, status_of, unknown_task, is_live as is_live_task, is_copy, set_running, set_status}
 use Rattle.stage_spec.specs.declared.instance.TaskState.TheVariants as state
 use Rattle.stage_laws.{specs.{Narrowing.{has_context}, Sound.{AreRunning}}, proofs.EachSettled.{briefs-of_passes}}
-use Rattle.stage_laws.proofs.{Others.{ReachesSame, passes-same, task-changed, tasks-apart}, Tasks.{is_task-some}}
+use Rattle.stage_laws.proofs.{Others.{ReachesSame, passes-same, task-changed, tasks-apart}, Tasks.{has-same, is_task-some}}
 use Rattle.counter_match.specs.Seating.{empty_seating}
 use Rattle.world_spec.specs.{Value.{World, is_live, entry_at, standing_at, is_key}, StageOf.{stage_of}, Kept.{post_at, IsKept}}
 use Rattle.world_spec.{specs.{Changes.{place, end_task}, Rescheduled.{IsUntouched}}, proofs.{Moving.{leads-parts}, Standing.{left-untouched}}}
 use Rattle.exit_fold.specs.Leaving.{is_of_task, IsFolded}
 use Rattle.world_spec.proofs.Coming.{number_true}
-
--- the task on a processor has a number, and is there
-pub task-low : (hw : Hardware) (w : World) (cpu : CpuNo) (task : TaskNo) → IsKept hw w → task_on (stage_of w) cpu ≡ Some task → task.0 < 64
-task-low hw w cpu task h on = elim (cases_lt task.0 64) [
-  | inl low ↦ low
-  | inr past ↦
-      let unknown : status_of (stage_of w) task ≡ unknown_task = get_or_past w.quiet.tasks task.0 unknown_task (omega (arith, past, h.shape.tasks)) in
-      absurd (false≢true (ap (λ s. is_live_task s.state) (sym unknown) ∙ h.running.live cpu task on))
-]
 
 there : (s : TaskState) → is_live_task s ≡ true → s ≡ state.Live
 there state.Unknown h = absurd (false≢true h)
@@ -47,10 +38,6 @@ exit-stage v w x t cpu task on f placed ended =
     ∙ ((λ i. exited_after cpu task (f.stage i)) ∙ ap (λ o. exited_by cpu o (stage_of v)) (sym on)))
 
 -- what is left in the contexts of another processor
-has-same : (s t : Stage) (cpu : CpuNo) (c : Context) → task_on t cpu ≡ task_on s cpu → has_context t cpu c ≡ has_context s cpu c
-has-same s t cpu (context.Processor own) same = refl
-has-same s t cpu (context.Task task) same = ap (λ o. is_task o task) same
-
 elsewhere : (s : Stage) (cpu other : CpuNo) (task : TaskNo) (c : Context) → AreRunning s → task_on s cpu ≡ Some task → other.0 ≢ cpu.0 → has_context s other c ≡ true → is_of_task task c ≡ false
 elsewhere s cpu other task (context.Processor own) running on apart has = refl
 elsewhere s cpu other task (context.Task here) running on apart has = grind (arith, tasks-apart, is_task-some, number_true)

@@ -1,16 +1,16 @@
 -- What a copy that is folded leaves: keys in other contexts, its family, and its folded sums.
-use Rattle.std.specs.{Prelude.{◌≡◌, true, false, List, [], ◌∷◌, slice_index_or, slice_set}, FinMap.{FinMap, get}}
-use Rattle.std.specs.{List.{fold}, Option.{unwrap_or}, Ordering.{nat_cmp}}
-use Rattle.std.proofs.{Common.{arith, refl, sym, ap, subst, ◌∙◌, inl, inr, get_or-set_same}, lemmas.Bool.{cases_eq, cases_Bool}}
-use Rattle.perf_base.specs.declared.{numbers.Key.{Key}, standing.Standing.{Standing}}
+use Rattle.std.specs.{Prelude.{◌≡◌, true, false, List, slice_index_or, slice_set}}
+use Rattle.std.specs.{Option.{unwrap_or}}
+use Rattle.std.proofs.{Common.{arith, sym, ap, subst, ◌∙◌, inl, inr, get_or-set_same}, lemmas.Bool.{cases_Bool}}
+use Rattle.perf_base.specs.declared.{numbers.Key.{Key}}
 use Rattle.perf_base.specs.declared.standing.Standing.TheVariants as standing
 use Rattle.stage_spec.specs.{Families.{plus}, Hardware.{Hardware}, Shares.{no_sums}}
 use Rattle.world_spec.specs.Value.{World, is_live, entry_at, instance_at, account_at, standing_at, family_of, is_key, times}
 use Rattle.world_spec.specs.{StageOf.{after_first}, Kept.{leads, post_at, is_member_of, IsKept}, Changes.{all_but}}
 use Rattle.world_spec.{specs.Adding.{out_of_family, drop_instance, folded_away}, proofs.Disbanding.{Disbands}}
 use Rattle.world_spec.proofs.{Dropping.{it-leads}, Folding.{folded-is, copy-may}, Gone.{fewer_entry, left_world, get-left}}
-use Rattle.world_spec.proofs.GoneLeader.{freed_standings, entries_freed, standings_freed, led_world, dropped-leader, tables-freed, led-disbands, siblings-stand}
-use Rattle.world_spec.proofs.{Keys.{key-is, is_key-same, is_key-true, times-cons, once-true, once-false}, Moving.{leads-parts}}
+use Rattle.world_spec.proofs.GoneLeader.{entries_freed, standings_freed, led_world, dropped-leader, tables-freed, led-disbands, siblings-stand}
+use Rattle.world_spec.proofs.{Keys.{key-is, is_key-true, once-false}, Moving.{leads-parts}}
 use Rattle.world_spec.proofs.Tables.{post_of, get-there}
 use Rattle.world_spec.proofs.WaysGone.{standing-left}
 

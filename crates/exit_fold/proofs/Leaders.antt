@@ -7,7 +7,7 @@ use Rattle.perf_base.specs.declared.{numbers.{Key.{Key}, TaskNo.{TaskNo}}, stand
 use Rattle.perf_base.specs.declared.standing.Context.TheVariants as context
 use Rattle.stage_spec.specs.{Hardware.{Hardware}, Stage.{Stage, place_of, groups_in, all_groups, lists_of, no_groups}}
 use Rattle.stage_spec.proofs.{Each.{Each, none-Each, get_or-Each}, Parts.{Each-from_All, joined-Each}}
-use Rattle.stage_laws.{specs.Sound.{IsGroup, IsGrouped, AreAlike}, proofs.{Tasks.{some-same}, Totals.{total, total-nil, total-cons}}}
+use Rattle.stage_laws.{specs.Sound.{IsGroup, IsGrouped, AreAlike}, proofs.{Tasks.{some-same}}}
 use Rattle.world_spec.specs.Value.{World, Leaders, no_leaders, is_live, entry_at, instance_at, leaders_of, is_key, times}
 use Rattle.world_spec.specs.{StageOf.{after_first, group_at, lists_at, stage_of}, Kept.{post_at, leads, once_if, IsKept}, Adding.{folded_away}}
 use Rattle.world_spec.{specs.{Changes.{all_but}, Listings.{keys_in}, Staying.{HasGone}}, proofs.Counting.{AreSameKeys, same-total}}

@@ -1,15 +1,15 @@
 -- The copies that go are the stage's.
-use Rattle.std.specs.Prelude.{◌≡◌, ◌+◌, ◌<◌, Bool, true, false, ◌&&◌, cond, List, [], ◌∷◌, map, filter, Option, Some, None}
+use Rattle.std.specs.Prelude.{◌≡◌, ◌+◌, ◌<◌, Bool, true, false, ◌&&◌, cond, map, filter, Option, Some, None}
 use Rattle.std.proofs.Common.{refl, sym, ap, ◌∙◌}
 use Rattle.perf_base.specs.declared.{numbers.{CpuNo.{CpuNo}, EventNo.{EventNo}, Key.{Key}, TaskNo.{TaskNo}}, reply.Sums.{Sums}}
 use Rattle.perf_base.specs.declared.standing.Context.TheVariants as context
-use Rattle.stage_spec.specs.{declared.instance.Instance.{Instance}, Families.{plus, plus_each}, Hardware.{Hardware}}
+use Rattle.stage_spec.specs.{declared.instance.Instance.{Instance}, Families.{plus_each}, Hardware.{Hardware}}
 use Rattle.stage_spec.specs.{Stage.{members, groups_in, is_of_family, task_on}, Verdict.{task_lists}}
 use Rattle.stage_laws.proofs.Images.{filter-map}
 use Rattle.world_spec.specs.{Value.{World, is_live, entry_at, instance_at, family_of}, StageOf.{stage_of}, Kept.{once_if, plus_keys, IsKept}}
-use Rattle.world_spec.{specs.Listings.{keys_in}, proofs.{Counting.{times-filter, AreSameKeys}, Listings.{context-is, keys-at}}}
+use Rattle.world_spec.{specs.Listings.{keys_in}, proofs.{Counting.{times-filter, AreSameKeys}, Listings.{context-is, keys-at}, Placing.{task-low}}}
 use Rattle.exit_fold.{specs.Leaving.{is_of_task, leaving_copies, LeavingLaw}, proofs.Contexts.{by-place}}
-use Rattle.exit_fold.proofs.{Copies.{leaving-times}, Exited.{task-low}}
+use Rattle.exit_fold.proofs.Copies.{leaving-times}
 use Rattle.world_spec.proofs.Along.{filter-no}
 use Rattle.world_spec.proofs.Families.{same-sums, each-by_keys}
 

@@ -1,6 +1,6 @@
 -- A world while the copies of a task are folded one by one, each of which leads a group when it goes.
 use Rattle.std.specs.Prelude.{◌≡◌, ◌≢◌, ℕ, ◌<◌, ◌≤◌, ◌==◌, Bool, true, false, not, ◌&&◌, cond, List, [], ◌∷◌, ◌++◌, map, filter, Some, slice_index_or}
-use Rattle.std.proofs.{Common.{arith, refl, sym, ap, subst, ◌∙◌, inl, inr}, lemmas.Bool.{cases_eq, cases_Bool, false≢true, Decides.{nat_tests}}}
+use Rattle.std.proofs.{Common.{arith, refl, sym, ap, subst, ◌∙◌, inl, inr}, lemmas.Bool.{cases_eq, cases_Bool, eq-eqb, false≢true, Decides.{nat_tests}}, Math.Bool.{and-true, and-false}}
 use Rattle.std.proofs.lemmas.List.{map-append, get_or-set_other, Sums.{fold-append}}
 use Rattle.perf_base.specs.declared.{numbers.{CpuNo.{CpuNo}, EventNo.{EventNo}, Key.{Key}, TaskNo.{TaskNo}}, reply.Sums.{Sums}}
 use Rattle.perf_base.specs.declared.standing.Context.{Context}
@@ -10,7 +10,7 @@ use Rattle.stage_laws.{specs.OneByOne.{drop_one, drop_ones}, proofs.Others.{cpu-
 use Rattle.world_spec.specs.Value.{World, is_live, entry_at, instance_at, account_at, standing_at, leaders_of, family_of, is_key, times}
 use Rattle.world_spec.specs.{StageOf.{stage_of}, Kept.{post_at, leads, once_if, is_member_of, plus_keys, family_sums, IsKept}}
 use Rattle.world_spec.{specs.{Adding.{drop_instance, folded_away}, Changes.{all_but}, Staying.{HasGone}}, proofs.Counting.{times-filter, AreSameKeys}}
-use Rattle.world_spec.proofs.{Disbanding.{Disbands, and_true}, Folding.{fold-stage, fold-sums, fold-kept, folded-is}}
+use Rattle.world_spec.proofs.{Disbanding.{Disbands}, Folding.{fold-stage, fold-sums, fold-kept, folded-is}}
 use Rattle.world_spec.proofs.GoneLeader.{entries_freed, standings_freed, dropped-leader, tables-freed, led-disbands}
 use Rattle.world_spec.proofs.Keys.{key-is, is_key-same, is_key-other, is_key-true, all_but-none, times-cons, times-push, once-true, once-false}
 use Rattle.world_spec.proofs.{Moving.{leads-parts}, Staying.{fold-stays}}
@@ -18,7 +18,6 @@ use Rattle.exit_fold.specs.Leaving.{is_of_task, leaves}
 use Rattle.exit_fold.proofs.Copies.{copy-there, filter-all, filter-none, filter-twice, plus-turned}
 use Rattle.exit_fold.proofs.Going.{folded-apart, folded-untouched, own-family, own-folded, same-hardware}
 use Rattle.world_spec.proofs.Coming.{number_true}
-use Rattle.stage_laws.proofs.OneByOneCopies.{and-false}
 use Rattle.world_spec.proofs.Working.{filter-same}
 use Rattle.world_spec.proofs.Families.{same-sums}
 
@@ -95,7 +94,7 @@ next-gone hw w task q h x = fold-stays hw w q h (next-live w task q x) x.copy
 
 -- which keys are there then
 live-then : (w t : World) (q k : Key) → HasGone w t q → is_live t k ≡ (is_live w k && not (is_key q k))
-live-then w t q k g = grind (arith, nat_tests, key-is, is_key-same, and-false, is_key-other, and_true)
+live-then w t q k g = grind (arith, nat_tests, key-is, is_key-same, and-false, is_key-other, and-true)
 
 live-but : (w t : World) (q : Key) (keys : List Key) → HasGone w t q → filter (is_live t) keys ≡ all_but q (filter (is_live w) keys)
 live-but w t q keys g = filter-same (is_live t) (λ k. is_live w k && not (is_key q k)) keys (λ k some. live-then w t q k g) ∙ sym (filter-twice (is_live w) (λ k. not (is_key q k)) keys)
@@ -110,13 +109,10 @@ absent hw v q e h off = elim (cases_eq (times q (family_of v e).copies) 0) [
 only-copy : (live same copy : Bool) → live ≡ true → same ≡ true → copy ≡ true → once_if (live && same && copy) ≡ 1
 only-copy live same copy a b c = λ i. once_if (a i && b i && c i)
 
-own-number : (n : ℕ) → (n == n) ≡ true
-own-number n = grind (arith, nat_tests)
-
 present : (hw : Hardware) (v : World) (q : Key) → IsKept hw v → is_live v q ≡ true → (instance_at v q).copy ≡ true → times q (family_of v (instance_at v q).event).copies ≡ 1
 present hw v q h live copy =
     let slot : ℕ = (instance_at v q).event.0 in
-    h.linked.copies q slot ∙ only-copy (is_live v q) (slot == slot) (instance_at v q).copy live (own-number slot) copy
+    h.linked.copies q slot ∙ only-copy (is_live v q) (slot == slot) (instance_at v q).copy live (eq-eqb slot slot refl) copy
 
 -- the copies of an event that went
 gone-sums : (hw : Hardware) (v w t : World) (q : Key) (slot : EventNo) → is_live w q ≡ true → HasGone w t q → times q (family_of v slot).copies ≡ 1

@@ -2,23 +2,23 @@
 use Rattle.std.specs.Prelude.{◌≡◌, ◌+◌, ◌^◌, ◌<◌, ◌≤◌, Bool, true, false, ◌&&◌, List, [], ◌∷◌, ◌++◌, length, map, flat_map, slice_index_or, if◌then◌else◌}
 use Rattle.std.proofs.{Common.{arith, refl, sym, ap, subst, ◌∙◌, inl, inr}, lemmas.{Bool.{cases_Bool, false≢true}, List.{map-append}, Simd.{map-map}}}
 use Rattle.std.proofs.Math.ListN.{get_or-map}
-use Rattle.perf_base.specs.declared.{numbers.{CpuNo.{CpuNo}, Key.{Key}, TaskNo.{TaskNo}}, standing.Context.{Context}}
+use Rattle.perf_base.specs.declared.{numbers.{CpuNo.{CpuNo}, Key.{Key}, TaskNo.{TaskNo}}}
 use Rattle.perf_base.specs.declared.standing.Context.TheVariants as context
 use Rattle.stage_spec.specs.{Flags.{is_inherited, is_pinned}, Forks.{inherited_groups, copied, forked}}
 use Rattle.stage_spec.specs.{Stage.{Stage, Group, lists_of, place_of, task_on, is_task, set_status, fresh_task}, Verdict.{task_lists}}
 use Rattle.stage_laws.specs.{Narrowing.{has_context}, OneByOne.{parents_in, fork_parents, add_copies}, Sound.{IsSound}}
 use Rattle.stage_laws.proofs.{EachSettled.{briefs-of_passes}, OneByOneCopies.{forked_one_by_one}, Others.{ReachesSame, passes-same, task-changed}}
-use Rattle.stage_laws.proofs.Tasks.{is_task-some}
+use Rattle.stage_laws.proofs.Tasks.{has-same, is_task-some}
 use Rattle.counter_match.specs.Seating.{empty_seating}
 use Rattle.world_spec.specs.{Changes.{add_task}, Kept.{post_at, leads, IsKept}, Rescheduled.{IsUntouched}}
 use Rattle.world_spec.specs.StageOf.{after_first, group_at, lists_at, stage_of}
 use Rattle.world_spec.{specs.Value.{World, Entry, no_leaders, is_live, entry_at, instance_at, is_key, times}, proofs.GoneLeader.{siblings-stand}}
 use Rattle.world_spec.proofs.{GoneLeaderStage.{map-within, leading-first, leading-rest}, GoneStage.{AreLeading}}
 use Rattle.world_spec.proofs.{Keys.{key-is, is_key-same, is_key-other, is_key-true, times-cons, once-true}, Moving.{leads-parts}}
-use Rattle.world_spec.proofs.Standing.{left-untouched}
+use Rattle.world_spec.proofs.{Placing.{task-low}, Standing.{left-untouched}}
 use Rattle.fork_inherit.specs.Copies.{parent_of, inherited_members, inherited_keys, leaders_from, IsNewCopy, AreCopied, MayCopyList, HasForked}
 use Rattle.fork_inherit.proofs.{Group.{IsMember, member-of}, Listed.{IsInherited, inherited-key, led-place, same-list, copied-then}}
-use Rattle.fork_inherit.proofs.{Room.{task-low, list-leads}, Starting.{IsFree, not-on, none-in, listed, flag-is, all-fit}}
+use Rattle.fork_inherit.proofs.{Room.{list-leads}, Starting.{IsFree, not-on, none-in, listed, flag-is, all-fit}}
 
 -- the flexible groups, after the pinned ones
 same-inherited : (child : TaskNo) (v w : World) (done keys : List Key) → AreCopied child v w done → ((q : Key) → 1 ≤ times q keys → is_live v q ≡ true) → inherited_keys w keys ≡ inherited_keys v keys
@@ -134,10 +134,6 @@ pub has-forked : (v t x : World) (child parent : TaskNo) → AreCopied child v t
 has-forked v t x child parent f is = grind arith
 
 -- processors
-has-same : (s t : Stage) (cpu : CpuNo) (c : Context) → task_on t cpu ≡ task_on s cpu → has_context t cpu c ≡ has_context s cpu c
-has-same s t cpu (context.Processor own) same = refl
-has-same s t cpu (context.Task task) same = ap (λ o. is_task o task) same
-
 fork-reaches : (v : World) (cpu other : CpuNo) (child parent : TaskNo) → IsKept v.hardware v → IsFree v cpu child parent → ReachesSame (stage_of v) (forked cpu child (stage_of v)) other
 unfolding forked
 fork-reaches v cpu other child parent h free =

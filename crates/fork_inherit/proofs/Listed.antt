@@ -14,7 +14,7 @@ use Rattle.fork_inherit.specs.Copies.{parent_of, inherited_members, inherited_ke
 use Rattle.fork_inherit.proofs.{Begun.{split-at}, Group.{IsMember, member-of}, Room.{list-leads}}
 use Rattle.world_tables.specs.Places.{picked}
 use Rattle.world_spec.proofs.Copying.{at-most-once}
-use Rattle.world_spec.proofs.Coming.{number_true}
+use Rattle.world_spec.proofs.{Along.{once-three}, Coming.{number_true}}
 
 -- more copies after some
 same-parent : (child : TaskNo) (v w : World) (done : List Key) → IsKept v.hardware v → AreCopied child v w done → (q : Key) → is_live v q ≡ true → parent_of w q ≡ parent_of v q
@@ -108,15 +108,10 @@ pub in-list : (v : World) (parent : TaskNo) (pinned : Bool) → IsKept v.hardwar
 in-list v parent true h q = h.linked.pinned q (8 + parent.0)
 in-list v parent false h q = h.linked.flexible q (8 + parent.0)
 
-middle : (a b c : Bool) → 1 ≤ once_if (a && b && c) → b ≡ true
-middle true true c some = refl
-middle true false c some = absurd (omega (arith, some))
-middle false b c some = absurd (omega (arith, some))
-
 pub led-place : (v : World) (parent : TaskNo) (pinned : Bool) → IsKept v.hardware v → (q : Key) → 1 ≤ times q (leaders_from v parent pinned) → place_of (entry_at v q).context ≡ 8 + parent.0
 led-place v parent pinned h q some =
     number_true (place_of (entry_at v q).context) (8 + parent.0)
-    (middle (leads (post_at v) q) (place_of (entry_at v q).context == 8 + parent.0) (if (entry_at v q).pinned then pinned else not pinned) (omega (arith, some, in-list v parent pinned h q)))
+    (once-three (leads (post_at v) q) (place_of (entry_at v q).context == 8 + parent.0) (if (entry_at v q).pinned then pinned else not pinned) (omega (arith, some, in-list v parent pinned h q))).1
 
 task-by-place : (c : Context) (n : ℕ) → place_of c ≡ 8 + n → n < 64 → is_of_task c ≡ true
 task-by-place (context.Processor cpu) n is low = grind (arith, nat_tests, place-cases)

@@ -1,24 +1,15 @@
 -- How many copies a fork makes, by the keys of its parent's context.
 use Rattle.std.specs.Prelude.{◌≡◌, ℕ, ◌+◌, ◌<◌, ◌≤◌, nat_lt, Bool, true, false, not, cond, is_some, IfSome, IfNone, List, [], ◌∷◌, length, map, Option, Some, None, if◌then◌else◌}
-use Rattle.std.{specs.List.{sum_by}, proofs.{Common.{arith, refl, sym, ap, ◌∙◌, inl, inr}, lemmas.Bool.{cases_lt, false≢true, Decides.{nat_tests}}}}
-use Rattle.std.proofs.{lemmas.List.{length-map, get_or_past}, Math.ListN.{get_or-map}}
-use Rattle.perf_base.specs.declared.{numbers.{CpuNo.{CpuNo}, Key.{Key}, TaskNo.{TaskNo}}, standing.Context.{Context}}
+use Rattle.std.{specs.List.{sum_by}, proofs.{Common.{arith, refl, sym, ap, ◌∙◌}, lemmas.Bool.{Decides.{nat_tests}}}}
+use Rattle.std.proofs.{lemmas.List.{length-map}, Math.ListN.{get_or-map}}
+use Rattle.perf_base.specs.declared.{numbers.{Key.{Key}}, standing.Context.{Context}}
 use Rattle.stage_spec.specs.{Flags.{is_inherited}, Forks.{inherited_groups, new_copies}, Hardware.{Hardware}}
-use Rattle.stage_spec.specs.Stage.{Group, group_size, lists_of, place_of, task_on, status_of, unknown_task, is_live as is_live_task}
+use Rattle.stage_spec.specs.Stage.{Group, group_size, lists_of, place_of}
 use Rattle.stage_laws.proofs.Totals.{total-nil, total-cons, sum_by-is-total}
 use Rattle.world_spec.specs.{Value.{World, no_leaders, leaders_of, entry_at, instance_at}, StageOf.{group_at, lists_at, stage_of}, Kept.{IsKept}}
 use Rattle.world_spec.{specs.Copying.{leaders_in}, proofs.{Families.{group-members}, GoneLeaderStage.{leading-first, leading-rest}}}
 use Rattle.world_spec.proofs.GoneStage.{AreLeading, listed-lead}
 use Rattle.fork_inherit.specs.Copies.{copies_of, copies_of_all}
-
--- the task on a processor has a number
-pub task-low : (hw : Hardware) (w : World) (cpu : CpuNo) (task : TaskNo) → IsKept hw w → task_on (stage_of w) cpu ≡ Some task → task.0 < 64
-task-low hw w cpu task h on = elim (cases_lt task.0 64) [
-  | inl low ↦ low
-  | inr past ↦
-      let unknown : status_of (stage_of w) task ≡ unknown_task = get_or_past w.quiet.tasks task.0 unknown_task (omega (arith, past, h.shape.tasks)) in
-      absurd (false≢true (ap (λ s. is_live_task s.state) (sym unknown) ∙ h.running.live cpu task on))
-]
 
 -- the leaders of a list
 pub list-leads : (hw : Hardware) (w : World) (c : Context) (pinned : Bool) → IsKept hw w → AreLeading w (leaders_in pinned (leaders_of w c))

@@ -1,5 +1,5 @@
 -- That a fork which is not refused may copy both lists of its parent.
-use Rattle.std.specs.Prelude.{◌≡◌, ℕ, suc, zero, ◌+◌, ◌^◌, ◌<◌, ◌≤◌, ◌==◌, nat_lt, Bool, true, false, not, ◌&&◌, All, List, [], ◌∷◌, length, map, Some, None, if◌then◌else◌}
+use Rattle.std.specs.Prelude.{◌≡◌, ℕ, suc, zero, ◌+◌, ◌^◌, ◌<◌, ◌≤◌, ◌==◌, nat_lt, Bool, true, false, not, All, List, [], ◌∷◌, length, map, Some, None, if◌then◌else◌}
 use Rattle.std.proofs.{Common.{arith, refl, sym, ap, subst, ◌∙◌, inl, inr}, lemmas.Bool.{cases_Bool, false≢true, Decides.{nat_tests}}}
 use Rattle.std.proofs.{lemmas.List.{length-map, Concat.{length-flat_map}}, Math.ListN.{get_or-map}}
 use Rattle.perf_base.specs.declared.numbers.{CpuNo.{CpuNo}, Key.{Key}, TaskNo.{TaskNo}}
@@ -8,12 +8,12 @@ use Rattle.stage_spec.specs.{Flags.{is_pinned}, Forks.{fork_refusal, new_copies}
 use Rattle.stage_spec.specs.Stage.{Group, no_groups, lists_of, live_copies, place_of, task_on, status_of, was_used}
 use Rattle.stage_laws.{specs.Sound.{IsSound, AreListed}, proofs.Tasks.{first-clear, rest-clear}}
 use Rattle.stage_laws.proofs.{Totals.{total-same, sum_by-is-total}, Counts.{count-append}}
-use Rattle.world_spec.specs.{Kept.{post_at, leads, once_if, copies_in, IsKept}, StageOf.{group_at, lists_at, stage_of}}
+use Rattle.world_spec.specs.{Kept.{post_at, leads, copies_in, IsKept}, StageOf.{group_at, lists_at, stage_of}}
 use Rattle.world_spec.specs.Value.{World, Leaders, no_leaders, leaders_of, is_live, entry_at, instance_at, is_key, times}
 use Rattle.world_spec.proofs.{Families.{leaders_both, leaders-at, copies-are}, Keys.{key-is, is_key-true, times-cons, once-false}}
 use Rattle.fork_inherit.specs.Copies.{copies_of_all, inherited_keys, leaders_from, MayCopyList}
-use Rattle.fork_inherit.proofs.{Listed.{in-list}, Room.{task-low, copies-new}}
-use Rattle.world_spec.proofs.Tables.{same_number}
+use Rattle.fork_inherit.proofs.{Listed.{in-list}, Room.{copies-new}}
+use Rattle.world_spec.proofs.{Along.{once-three}, Placing.{task-low}, Tables.{same_number}}
 use Rattle.stage_laws.proofs.OpenHomes.{live-used}
 
 -- what a fork that is not refused says
@@ -56,12 +56,6 @@ all-at P v (x ∷ keys) h q some = elim (cases_Bool (is_key q x)) [
   | inr off ↦ all-at P v keys (λ i d low. h (suc i) d (omega (arith, low))) q (omega (arith, some, times-cons q x keys, once-false (is_key q x) off))
 ]
 
-third : (a b c : Bool) → 1 ≤ once_if (a && b && c) → c ≡ true
-third true true true some = refl
-third true true false some = absurd (omega (arith, some))
-third true false c some = absurd (omega (arith, some))
-third false b c some = absurd (omega (arith, some))
-
 by-flag : (pinned b : Bool) → (if pinned then b else not b) ≡ true → pinned ≡ b
 by-flag true b h = sym h
 by-flag false true h = absurd (false≢true h)
@@ -69,7 +63,7 @@ by-flag false false h = refl
 
 pub flag-is : (v : World) (parent : TaskNo) (b : Bool) → IsKept v.hardware v → (q : Key) → 1 ≤ times q (leaders_from v parent b) → (entry_at v q).pinned ≡ b
 flag-is v parent b h q some =
-    by-flag (entry_at v q).pinned b (third (leads (post_at v) q) (place_of (entry_at v q).context == 8 + parent.0) (if (entry_at v q).pinned then b else not b) (omega (arith, some, in-list v parent b h q)))
+    by-flag (entry_at v q).pinned b (once-three (leads (post_at v) q) (place_of (entry_at v q).context == 8 + parent.0) (if (entry_at v q).pinned then b else not b) (omega (arith, some, in-list v parent b h q))).2
 
 are-listed : (v : World) (parent : TaskNo) → IsKept v.hardware v → parent.0 < 64 → IsSound v.hardware (stage_of v) → AreListed (lists_at v (leaders_of v (context.Task parent)))
 are-listed v parent h low sound =

@@ -1,5 +1,5 @@
 -- A line by what is asked of its form; and that it stands for one line, or is refused for one reason, and never both.
-use Rattle.std.proofs.Common.{◌≡◌, ℕ, ◌<◌, ◌≤◌, All, List, Result, Ok, Err, inl, inr, refl, sym, ap, subst, ◌∙◌, arith}
+use Rattle.std.proofs.Common.{◌≡◌, ℕ, ◌<◌, ◌≤◌, All, List, Result, Ok, Err, inl, inr, sym, ap, subst, ◌∙◌, arith}
 use Rattle.std.{proofs.lemmas.{Bool.{cases_order}, Option.{same_Some}}, specs.Prelude.{IfOk, IfErr}}
 use Rattle.perf_base.specs.declared.{acts.Act.{Act}, reasons.SReason.{SReason}}
 use Rattle.perf_base.specs.Scripts.{Scripted}
@@ -7,7 +7,7 @@ use Rattle.perf_base.specs.declared.acts.Act.TheVariants as act
 use Rattle.perf_base.specs.declared.reasons.SReason.TheVariants as reason
 use Rattle.script_spec.specs.{Forms.{Version, Form}, Faults.{IsPrintable, rank}}
 use Rattle.script_spec.specs.Forms as form
-use Rattle.script_read.proofs.OneAnswer.{ranked, ranked_back, rank_one}
+use Rattle.script_read.proofs.OneAnswer.{rank_one}
 use Rattle.given_lines.specs.declared.given.Given.{Given}
 use Rattle.given_lines.specs.declared.given.Given.TheVariants as given
 use Rattle.given_lines.specs.Given.{IsOfActor, IsOwnLine, IsInRangeFor, IsNamedFor, Each, Keeps, IsBadLine, Says, IsGivenLine}

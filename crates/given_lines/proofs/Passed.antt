@@ -4,7 +4,7 @@ use Rattle.std.proofs.lemmas.List.{append-nil, length_push, get_or_append_left, 
 use Rattle.script_spec.specs.{Lines.{lines_of}, Forms.{Version}, Texts.{version_of}}
 use Rattle.script_read.specs.Reading.{IsNextLine, HasNoLine}
 use Rattle.given_lines.specs.{Heads.{IsUndeclared, AreDeclared, IsFirstUndeclared}, Passing.{IsPassed}}
-use Rattle.script_read.proofs.Whole.{get_last}
+use Rattle.std.proofs.Math.Seq.{get_or-append_seam}
 
 pub none_passed : (v : Version) (text : List ℕ) → IsPassed v text 0 text
 none_passed v text = record { front = []; many = refl; lines = refl; declared = All-nil (λ line. IsUndeclared v line → ⊥); few = omega arith }
@@ -23,7 +23,7 @@ module _ (v : Version) (text : List ℕ) (n : ℕ) (left line more : List ℕ) (
   }
 
   at_line : get_or (lines_of text) n [] ≡ line
-  at_line = ap (λ (ls : List (List ℕ)). get_or ls n []) split ∙ (ap (λ k. get_or (p.front ++ (line ∷ lines_of more)) k []) (sym p.many) ∙ get_last p.front line [] (lines_of more))
+  at_line = ap (λ (ls : List (List ℕ)). get_or ls n []) split ∙ (ap (λ k. get_or (p.front ++ (line ∷ lines_of more)) k []) (sym p.many) ∙ get_or-append_seam p.front line (lines_of more) [])
 
   at_front : (k : ℕ) → k < n → get_or (lines_of text) k [] ≡ get_or p.front k []
   at_front k l = ap (λ (ls : List (List ℕ)). get_or ls k []) split ∙ get_or_append_left p.front (line ∷ lines_of more) [] k (omega (arith, l, p.many))

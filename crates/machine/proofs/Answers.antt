@@ -1,6 +1,7 @@
 -- Answers to an order with one act more.
 use Rattle.std.{specs.Prelude.{◌≡◌, ℕ, List, [], ◌∷◌, ◌++◌, map}, proofs.Common.{refl, sym, ap, subst, ◌∙◌, append_assoc, append-nil}}
 use Rattle.std.proofs.lemmas.List.{map-append}
+use Rattle.perf_base.proofs.FlatMaps.{flat_map_after-push}
 use Rattle.perf_base.specs.declared.{acts.Act.{Act}, numbers.{EventNo.{EventNo}, RingNo.{RingNo}}, reply.{Reply.{Reply}, Answer.{Answer}}}
 use Rattle.perf_base.specs.Scripts.{Scripted}
 use Rattle.perf_base.specs.declared.acts.Act.TheVariants as act
@@ -33,11 +34,7 @@ replies-append hw st lost before (ToolStep line ∷ steps) more (r ∷ replies) 
 
 -- the lines that they do
 lines-push : (before acts : List Act) (a : Act) → lines_from before (acts ++ a ∷ []) ≡ lines_from before acts ++ lines_of_act (before ++ acts) a
-lines-push before [] a = append-nil (lines_of_act before a) ∙ ap (λ bs. lines_of_act bs a) (sym (append-nil before))
-lines-push before (b ∷ acts) a =
-    ap (λ xs. lines_of_act before b ++ xs) (lines-push (before ++ b ∷ []) acts a)
-    ∙ (ap (λ bs. lines_of_act before b ++ (lines_from (before ++ b ∷ []) acts ++ lines_of_act bs a)) (append_assoc before (b ∷ []) acts)
-    ∙ sym (append_assoc (lines_of_act before b) (lines_from (before ++ b ∷ []) acts) (lines_of_act (before ++ b ∷ acts) a)))
+lines-push before acts a = flat_map_after-push lines_of_act before acts a
 
 -- One more act with the reply to its line is one more answer.
 pub answers-push : (s : Scripted) (lost : List Step → EventNo → ℕ) (acts : List Act) (a : Act) (answers : List Answer) (answer : Answer) → AnswerOrder s lost acts answers

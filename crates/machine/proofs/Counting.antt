@@ -1,13 +1,13 @@
 -- How many tests of counters rescheduling some processors takes.
 use Rattle.std.specs.Prelude.{◌≡◌, ℕ, suc, zero, ◌+◌, ◌*◌, ◌<◌, ◌≤◌, ◌==◌, Bool, true, false, not, ◌&&◌, List, [], ◌∷◌, ◌++◌, length, map, filter, flat_map, cond, Option, Some, None, if◌then◌else◌}
-use Rattle.std.{specs.List.{sum_by}, proofs.{Common.{arith, refl, sym, ap, subst, ◌∙◌}, lemmas.Bool.{cases_lt}}}
+use Rattle.std.{specs.List.{sum_by}, proofs.{Common.{arith, refl, sym, ap, subst, ◌∙◌}, lemmas.Bool.{cases_lt, and_right}}}
 use Rattle.std.proofs.lemmas.List.{length-map, map-append, Elements.{filter-append}, Sums.{sum_by-append, sum_by-cons}}
 use Rattle.perf_base.specs.declared.{lines.{CpuLine.{CpuLine}, ToolLine.{ToolLine}, Work.{Work}}, numbers.{CpuNo.{CpuNo}, CpuSet.{CpuSet}}}
 use Rattle.perf_base.specs.declared.{reasons.Reason.{Reason}, standing.Standing.{Standing}}
 use Rattle.perf_base.specs.declared.lines.CpuLine.TheVariants as line
 use Rattle.stage_spec.specs.{Hardware.{Hardware, mask_of}}
-use Rattle.stage_spec.specs.{History.{Step, CpuStep, ToolStep, cpu_refusal, tool_refusal, cpu_changed, tool_changed}}
-use Rattle.stage_spec.specs.{Replies.{seated}, Stage.{Stage, Group, all_cpus}, Verdict.{Judged, is_eligible, passes, verdicts}}
+use Rattle.stage_spec.specs.{History.{Step, CpuStep, ToolStep, cpu_refusal, tool_refusal, cpu_changed}}
+use Rattle.stage_spec.specs.{Replies.{seated}, Stage.{Stage, Group}, Verdict.{Judged, is_eligible, passes, verdicts}}
 use Rattle.stage_laws.specs.{Narrowing.{changed, cpu_touches, tool_touches, touches, unless_left, unless_no}, Briefs.{GroupBrief}}
 use Rattle.stage_laws.{specs.Standings.{brief_of, briefs, standings}, proofs.Briefs.{by_briefs}}
 use Rattle.world_spec.specs.{Rescheduled.{IsRescheduled}, StageOf.{stage_of}, Value.{World, seats_at}}
@@ -15,7 +15,6 @@ use Rattle.world_spec.proofs.Standing.{briefs-joined, passes-groups}
 use Rattle.cpu_sched.specs.{After.{after_brief}, Briefs.{present_brief}, Sheets.{Held}, Tried.{tried, tries, tries_for}}
 use Rattle.machine.specs.Counted.{AreCounted, AreCountedUnless, IsCounted, IsCountedBy, IsServedBy, Serves, is_idle_line, rescheduled_by, seats_of}
 use Rattle.machine.{specs.Settled.{is_in}, proofs.{Keeping.{filter-below, one-below}, Settling.{cpus_below}}}
-use Rattle.world_spec.proofs.Along.{not-both}
 
 -- as many events are seated as are on
 pub seats-count : (hw : Hardware) (w : World) (cpu : CpuNo) → IsRescheduled hw w cpu → length (seats_at w cpu).events ≡ length (seated hw (stage_of w) cpu)
@@ -144,7 +143,7 @@ pub tool-counted : (sheet : Option Held) (w after : World) (l : ToolLine) (befor
 tool-counted sheet w after l before now h = record { free = λ served. absurd served; seats = λ served. absurd served; least = λ out. h.least; most = h.most }
 
 none-on : (w : World) (cpu : CpuNo) (l : CpuLine) → ((other : CpuNo) → touches w.hardware (stage_of w) (CpuStep cpu l) other ≡ false) → rescheduled_by w.hardware (stage_of w) (CpuStep cpu l) ≡ []
-none-on w cpu l off = grind (arith, none-among, not-both)
+none-on w cpu l off = grind (arith, none-among, and_right)
 
 pub refused-cpu_counted : (sheet : Option Held) (w after : World) (cpu : CpuNo) (l : CpuLine) (r : Reason) (n : ℕ) → cpu_refusal (stage_of w) cpu l ≡ Some r
     → IsCountedBy sheet (CpuStep cpu l) w after n n

@@ -1,22 +1,22 @@
 -- An exit.
-use Rattle.std.specs.Prelude.{◌≡◌, ℕ, ◌<◌, ◌≤◌, ◌&&◌, ◌==◌, true, not, List, [], length, map, filter, Option, Some, None, slice_index_or}
-use Rattle.std.proofs.{Common.{arith, refl, sym, ap, subst, ◌∙◌, inl, inr}, lemmas.{Bool.{cases_eq}, List.{length-set}}}
+use Rattle.std.specs.Prelude.{◌≡◌, ◌<◌, ◌≤◌, ◌&&◌, ◌==◌, true, not, List, [], length, map, filter, Option, Some, None, slice_index_or}
+use Rattle.std.proofs.{Common.{arith, refl, sym, ap, subst, ◌∙◌}, lemmas.{List.{length-set}}}
 use Rattle.perf_base.specs.declared.numbers.{CpuNo.{CpuNo}, EventNo.{EventNo}, Key.{Key}, TaskNo.{TaskNo}}
 use Rattle.perf_base.specs.declared.lines.CpuLine.TheVariants as line
 use Rattle.perf_base.specs.declared.reply.Reply.TheVariants as reply
 use Rattle.perf_base.specs.declared.standing.Context.TheVariants as context
 use Rattle.stage_spec.specs.{Exits.{exit_refusal, exited, exited_by}, Hardware.{Hardware}, History.{Step, CpuStep, stage_step}}
-use Rattle.stage_spec.specs.{Limits.{IsMachine}, Settle.{settle, settle_each}}
+use Rattle.stage_spec.specs.{Settle.{settle, settle_each}}
 use Rattle.stage_spec.specs.{Stage.{Stage, all_cpus, task_on, members, groups_in, is_of_family}, Verdict.{task_lists}}
-use Rattle.stage_laws.{specs.{Narrowing.{IsNarrow, changed, unless_left, unless_no, touches}, Sound.{IsSound}}, proofs.Narrow.{narrows}}
-use Rattle.stage_laws.proofs.Sound.{step_sound}
-use Rattle.world_spec.specs.{Kept.{plus_keys, IsKept}, Listings.{keys_in}, Rescheduled.{AreRescheduled, AreUntouchedBut, IsRescheduled}}
+use Rattle.stage_laws.{specs.{Narrowing.{IsNarrow, changed, unless_left, unless_no, touches}}, proofs.Narrow.{narrows}}
+use Rattle.world_spec.specs.{Kept.{plus_keys, IsKept}, Listings.{keys_in}, Rescheduled.{AreUntouchedBut, IsRescheduled}}
 use Rattle.world_spec.specs.{StageOf.{stage_of}, Value.{World, is_live, entry_at, instance_at, account_at, family_of, times}, Quiet.{KeepsAccount}}
 use Rattle.world_spec.{specs.Stepping.{HasStepped, HasFolded}, proofs.{Lines.{slots-same}, Moving.{leads-parts}, Quiet.{quiet-keeps}, Stepping.{stepped}}}
 use Rattle.cpu_sched.specs.Resched.{StaysBut}
 use Rattle.exit_fold.{specs.Leaving.{leaves, leaving_copies, leaving_sums, HasExited}, proofs.Copies.{leaving-times}}
-use Rattle.exit_fold.proofs.{Exited.{task-low}, Leaving.{of_event, leaving-mapped, same-keys}}
-use Rattle.machine.{specs.Stepped.{limits_in, IsReady}, proofs.{Keeping.{one-below}, Refused.{accepted-cpu}}}
+use Rattle.exit_fold.proofs.Leaving.{of_event, leaving-mapped, same-keys}
+use Rattle.world_spec.proofs.Placing.{task-low}
+use Rattle.machine.{specs.Stepped.{limits_in, IsReady}, proofs.{Keeping.{one-below, ready-then, rescheduled-but}, Refused.{accepted-cpu}}}
 use Rattle.machine.proofs.{Settling.{one-settled}, TaskChange.{filter-alike}}
 use Rattle.machine.specs.Stepped as stepped_line
 use Rattle.world_spec.proofs.Along.{filter-no}
@@ -141,30 +141,12 @@ exit-done w v x cpu c by agrees = record {
 }
 
 -- the world is ready for the next line
--- each processor stands as rescheduling leaves it
-exit-rescheduled : (w v x : World) (cpu : CpuNo) → Course w v x cpu → IsRescheduled v.hardware x cpu → AreUntouchedBut cpu w v → AreUntouchedBut cpu v x → AreRescheduled v.hardware x
-exit-rescheduled w v x cpu c own left rescheduled other low = elim (cases_eq other.0 cpu.0) [
-  | inl e ↦ subst (λ (n : ℕ). IsRescheduled v.hardware x (record { 0 = n })) (sym e) own
-  | inr apart ↦
-      let keeps : KeepsRest w x = rest-kept w v x cpu c in
-      let within : other.0 < length w.quiet.running = omega (arith, low, keeps.size) in
-      let before : IsRescheduled v.hardware v other =
-      subst (λ (hw : Hardware). IsRescheduled hw v other) (sym c.gone.gone.hardware) ((left other within apart).rescheduled (c.ready.rescheduled other within)) in
-      (rescheduled other (omega (arith, within, exit-size w v cpu c.stage)) apart).rescheduled before
-]
-
 pub exit-ready : (w v x : World) (cpu : CpuNo) → Course w v x cpu → IsRescheduled v.hardware x cpu → AreUntouchedBut cpu w v → AreUntouchedBut cpu v x → IsReady x
 exit-ready w v x cpu c own left others =
     let keeps : KeepsRest w x = rest-kept w v x cpu c in
-    let rescheduled : AreRescheduled v.hardware x = exit-rescheduled w v x cpu c own left others in
-    record {
-      machine = subst (λ (n : ℕ). IsMachine (record { cpus = n; kinds = length x.hardware.kind_pmus; rings = [] }) x.hardware) (sym keeps.size)
-          (subst (λ (hw : Hardware). IsMachine (record { cpus = length w.quiet.running; kinds = length hw.kind_pmus; rings = [] }) hw) (sym keeps.hardware) c.ready.machine);
-      sound = subst (λ (hw : Hardware). IsSound hw (stage_of x)) (sym keeps.hardware)
-          (subst (IsSound w.hardware) (sym (exit-stage w v x cpu c)) (step_sound (limits_in w) w.hardware (stage_of w) (CpuStep cpu line.Exit) c.ready.machine (c.low, tt) c.ready.sound));
-      rescheduled = subst (λ (hw : Hardware). AreRescheduled hw x) (sym keeps.hardware) (subst (λ (hw : Hardware). AreRescheduled hw x) c.gone.gone.hardware rescheduled);
-      homes = λ k place live at.
-          let same : Stays w x k = stays w v x cpu k c live in
-          let low : place.0 < length w.quiet.running = c.ready.homes k place same.keeps.live (sym same.context ∙ at) in
-          omega (arith, low, keeps.size);
-    }
+    ready-then (limits_in w) w x (CpuStep cpu line.Exit) c.ready c.ready.machine (c.low, tt) keeps.hardware keeps.size
+    (λ k place live at.
+    let same : Stays w x k = stays w v x cpu k c live in
+    let low : place.0 < length w.quiet.running = c.ready.homes k place same.keeps.live (sym same.context ∙ at) in
+    omega (arith, low, keeps.size))
+    (exit-stage w v x cpu c) (rescheduled-but w v x cpu c.gone.gone.hardware (exit-size w v cpu c.stage) keeps.size c.ready.rescheduled own left others)

@@ -1,8 +1,7 @@
 -- The brief of a processor after a line's own change is the one that was foreseen before the line.
-use Rattle.std.specs.Prelude.{◌≡◌, ◌≢◌, ◌<◌, ◌≤◌, Bool, true, false, not, ◌&&◌, ◌||◌, cond, List, [], ◌∷◌, ◌++◌, map, filter, find, length, Option, Some, None, if◌then◌else◌}
+use Rattle.std.specs.Prelude.{◌≡◌, ◌≢◌, ◌<◌, ◌≤◌, Bool, true, false, not, ◌&&◌, ◌||◌, cond, List, [], ◌∷◌, ◌++◌, map, filter, find, length, Option, Some, None}
 use Rattle.std.{specs.List.{list_any}, proofs.Common.{arith, refl, sym, ap, ◌∙◌, inl, inr, get_or-set_same, get_or-set_other}}
-use Rattle.std.proofs.lemmas.{Bool.{cases_Bool, false≢true}, List.{length-map, length-set, map-append, Elements.{filter-append}}}
-use Rattle.std.proofs.Math.ListN.{get_or-map}
+use Rattle.std.proofs.lemmas.{Bool.{cases_Bool, false≢true}, List.{length-map, length-set}}
 use Rattle.perf_base.specs.{declared.{numbers.{CpuNo.{CpuNo}, Key.{Key}, TaskNo.{TaskNo}}, standing.Context.{Context}}, Standings.{stands_on}}
 use Rattle.perf_base.specs.declared.lines.CpuLine.TheVariants as line
 use Rattle.perf_base.specs.declared.standing.Context.TheVariants as context
@@ -15,7 +14,8 @@ use Rattle.world_spec.specs.Value.{World, no_leaders, leaders_of, standing_at, i
 use Rattle.world_spec.proofs.Keys.{is_key-same, is_key-other, times-cons, once-true, all_but-cons, all_but-none}
 use Rattle.cpu_sched.specs.After.{after_brief, brief_with, hardware_goes_last, some_wait, turned_groups}
 use Rattle.cpu_sched.specs.Briefs.{ProcessorBrief, brief_at, briefs_at, present_brief}
-use Rattle.exit_fold.{specs.Leaving.{HasExited}, proofs.Exited.{task-low}}
+use Rattle.exit_fold.specs.Leaving.{HasExited}
+use Rattle.world_spec.proofs.Placing.{task-low}
 use Rattle.task_moves.specs.Turning.{last_if, turn_in, turn_keys, turn_of_task, turned_world, turning, waits_there}
 use Rattle.task_moves.proofs.Turning.{flexible-once, found-there}
 use Rattle.cpu_sched.proofs.Bounded.{briefs-append}

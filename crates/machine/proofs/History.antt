@@ -1,18 +1,13 @@
 -- The history of an order with one act more, its record, and how many lines each actor has done then.
 use Rattle.std.specs.Prelude.{◌≡◌, ℕ, ◌+◌, ◌<◌, ◌≤◌, ◌==◌, List, [], ◌∷◌, ◌++◌, fold, length}
-use Rattle.std.proofs.{Common.{arith, refl, sym, ap, ◌∙◌, cond, get_or, set, append_assoc, append-nil, inl, inr}, lemmas.Bool.{cases_eq}}
+use Rattle.std.proofs.{Common.{arith, refl, ap, ◌∙◌, cond, get_or, set, inl, inr}, lemmas.Bool.{cases_eq}}
 use Rattle.std.proofs.lemmas.{Bool.Decides.{nat_tests}, Grind.{get_or-set_at}, List.{get_or-set_other, Sums.{sum_by_push}}}
 use Rattle.perf_base.specs.{declared.{acts.Act.{Act}, numbers.{CpuNo.{CpuNo}, ToolNo.{ToolNo}}}, Scripts.{Scripted}}
 use Rattle.perf_base.specs.declared.acts.Act.TheVariants as act
-use Rattle.stage_spec.specs.{Hardware.{hardware_of}, History.{Step, steps_of, steps_from, history, opening_stage}}
-use Rattle.stage_spec.specs.Order.{is_of_cpu, is_of_tool, done_by_cpu, done_by_tool}
+use Rattle.stage_spec.specs.{Hardware.{hardware_of}, History.{Step, steps_of, history, opening_stage}}
+use Rattle.stage_spec.{specs.Order.{is_of_cpu, is_of_tool, done_by_cpu, done_by_tool}, proofs.Recurrence.{steps-push}}
 use Rattle.ring_spec.specs.Running.{first_record, record_after, record_of}
 use Rattle.machine.specs.{Given.{record_by}, Leading.{record_in}}
-
-steps-push : (s : Scripted) (before acts : List Act) (a : Act) → steps_from s before (acts ++ a ∷ []) ≡ steps_from s before acts ++ steps_of s (before ++ acts) a
-unfolding steps_from
-steps-push s before [] a = append-nil (steps_of s before a) ∙ ap (λ bs. steps_of s bs a) (sym (append-nil before))
-steps-push s before (b ∷ acts) a = grind (arith, nat_tests, append_assoc, steps-push s (before ++ b ∷ []) acts a)
 
 pub history-grows : (s : Scripted) (acts : List Act) (a : Act) → history s (acts ++ a ∷ []) ≡ history s acts ++ steps_of s acts a
 history-grows s acts a = steps-push s [] acts a

@@ -1,18 +1,17 @@
 -- What lines leave to the processors, and to the next line.
-use Rattle.std.specs.Prelude.{◌≡◌, ℕ, zero, suc, ◌<◌, ◌≤◌, ◌↔◌, ◌==◌, Bool, true, false, cond, List, [], ◌∷◌, ◌++◌, length, filter, flat_map, None}
+use Rattle.std.specs.Prelude.{◌≡◌, ℕ, zero, suc, ◌<◌, ◌≤◌, ◌↔◌, ◌==◌, Bool, true, false, cond, [], ◌∷◌, ◌++◌, length, filter}
 use Rattle.std.proofs.{Common.{arith, refl, sym, ap, subst, ◌∙◌, inl, inr}, lemmas.Bool.{cases_eq, false≢true, Decides.{nat_tests}}}
 use Rattle.std.proofs.lemmas.List.{append-nil, map-append, Elements.{filter-append}}
-use Rattle.perf_base.specs.{Cpus.{HasCpu}, declared.{lines.{CpuLine.{CpuLine}, ToolLine.{ToolLine}}, numbers.{CpuNo.{CpuNo}, CpuSet.{CpuSet}, EventNo.{EventNo}}}}
-use Rattle.stage_spec.specs.{Families.{leaving}, Hardware.{Hardware}, History.{Step, CpuStep, ToolStep, tool_refusal, tool_changed, stage_step}}
-use Rattle.stage_spec.specs.{Limits.{Limits, IsMachine, IsWithin}, Numbers.{numbers_below}, Settle.{settle_each}, Stage.{Stage, all_cpus}}
-use Rattle.stage_laws.specs.{Narrowing.{touches, tool_touches, changed, unless_left, AreSettled, IsNarrow}, Sound.{IsSound}}
-use Rattle.stage_laws.proofs.{Narrow.{narrows}, Sound.{step_sound}}
-use Rattle.ring_spec.specs.{Running.{RingAccount, losses_on}, Sending.{length_by}}
-use Rattle.world_spec.specs.{Kept.{IsKept}, Lines.{AreAtHome}, Quiet.{is_quiet}, Rescheduled.{AreRescheduled, AreUntouchedOutside, IsRescheduled}, StageOf.{stage_of}, Stepping.{HasStepped}, Value.{World}}
+use Rattle.perf_base.specs.{Cpus.{HasCpu}, declared.{numbers.{CpuNo.{CpuNo}, CpuSet.{CpuSet}, EventNo.{EventNo}}}}
+use Rattle.stage_spec.specs.{Families.{leaving}, Hardware.{Hardware}, History.{Step, stage_step}}
+use Rattle.stage_spec.specs.{Limits.{Limits, IsMachine, IsWithin}, Numbers.{numbers_below}}
+use Rattle.stage_laws.specs.{Narrowing.{AreSettled}, Sound.{IsSound}}
+use Rattle.stage_laws.proofs.{Sound.{step_sound}}
+use Rattle.ring_spec.specs.{Sending.{length_by}}
+use Rattle.world_spec.specs.{Kept.{IsKept}, Lines.{AreAtHome}, Quiet.{is_quiet}, Rescheduled.{AreRescheduled, AreUntouchedBut, AreUntouchedOutside, IsRescheduled}, StageOf.{stage_of}, Stepping.{HasStepped}, Value.{World}}
 use Rattle.world_spec.proofs.{Coming.{number_true}, Lines.{KeepsAll, all-shares, all-slots, slots-become}}
 use Rattle.machine.{specs.{Settled.{is_in}, Stepped.{limits_in, IsReady}}, proofs.Settling.{cpus_below, is-in_set}}
 use Rattle.world_spec.proofs.Tables.{same_number, other_number}
-use Rattle.work_account.proofs.Accounts.{nothing-lost}
 
 -- the world after a step is ready for the next line
 pub ready-then : (l : Limits) (w x : World) (step : Step) → IsReady w → IsMachine l w.hardware → IsWithin l step → x.hardware ≡ w.hardware → length x.quiet.running ≡ length w.quiet.running
@@ -73,6 +72,17 @@ is-alone own set other alone = grind (arith, nat_tests, in-by, same_number, numb
 
 pub settled-all : (hw : Hardware) (w : World) → AreRescheduled hw w → AreSettled hw (stage_of w)
 settled-all hw w h cpu low = (h cpu low).settled
+
+-- all stand as rescheduling leaves them where one was rescheduled and the others were left
+pub rescheduled-but : (w v x : World) (cpu : CpuNo) → v.hardware ≡ w.hardware → length v.quiet.running ≡ length w.quiet.running → length x.quiet.running ≡ length w.quiet.running
+    → AreRescheduled w.hardware w → IsRescheduled v.hardware x cpu → AreUntouchedBut cpu w v → AreUntouchedBut cpu v x → AreRescheduled w.hardware x
+rescheduled-but w v x cpu hardware there size before own left others other low = elim (cases_eq other.0 cpu.0) [
+  | inl e ↦ subst (λ (hw : Hardware). IsRescheduled hw x other) hardware (subst (λ (n : ℕ). IsRescheduled v.hardware x (record { 0 = n })) (sym e) own)
+  | inr apart ↦
+      let within : other.0 < length w.quiet.running = omega (arith, low, size) in
+      let still : IsRescheduled v.hardware v other = subst (λ (hw : Hardware). IsRescheduled hw v other) (sym hardware) ((left other within apart).rescheduled (before other within)) in
+      subst (λ (hw : Hardware). IsRescheduled hw x other) hardware ((others other (omega (arith, within, there)) apart).rescheduled still)
+]
 
 -- a processor that is not in the set stands as it stood
 pub left-rescheduled : (w v : World) (set : CpuSet) → v.hardware ≡ w.hardware → length v.quiet.running ≡ length w.quiet.running → AreRescheduled w.hardware w

@@ -1,18 +1,18 @@
 -- Where acts of a script lead to a machine, the lines that they do lead there as given lines.
-use Rattle.std.specs.Prelude.{◌≡◌, ℕ, ◌+◌, ◌<◌, ◌≤◌, ◌==◌, true, Bool, false, cond, List, [], ◌∷◌, ◌++◌, count_by, length, sum_by, Option, Some, None}
+use Rattle.std.specs.Prelude.{◌≡◌, ℕ, ◌+◌, ◌<◌, ◌≤◌, ◌==◌, true, Bool, false, cond, List, [], ◌∷◌, ◌++◌, count_by, length, Option, Some, None}
 use Rattle.std.proofs.{Common.{arith, refl, sym, subst, ◌∙◌, append_assoc}, lemmas.Bool.{false≢true, Decides.{nat_tests}}}
-use Rattle.std.proofs.lemmas.{List.Sums.{sum_by-cons}, Option.{none-some, slice_get-get_or}}
+use Rattle.std.proofs.lemmas.{Option.{none-some, slice_get-get_or}}
 use Rattle.perf_base.specs.declared.{acts.Act.{Act}, lines.{CpuLine.{CpuLine}, ToolLine.{ToolLine}}, numbers.CpuNo.{CpuNo}}
 use Rattle.perf_base.specs.Scripts.{Scripted, IsScript, lines_of_cpu}
 use Rattle.perf_base.specs.declared.acts.Act.TheVariants as act
 use Rattle.perf_base.specs.declared.lines.CpuLine.TheVariants as cpu_line
-use Rattle.stage_spec.specs.History.{Step, CpuStep, ToolStep, SeenStep, cpu_steps, tool_steps, steps_of, steps_from, history}
+use Rattle.stage_spec.specs.History.{CpuStep, ToolStep, SeenStep, cpu_steps, tool_steps, steps_of, steps_from, history}
 use Rattle.stage_spec.specs.Order.{done_by_cpu, is_of_cpu, next_of_cpu, next_of_tool}
 use Rattle.stage_laws.specs.Bounds.{is_line}
-use Rattle.ring_laws.proofs.{Orders.{by_cpus, by_tools, cpus_from, none_done, tools_from, within}, Reached.{count-one}}
+use Rattle.ring_laws.proofs.{Orders.{cpus_from, none_done, tools_from, within}, Reached.{count-one}}
 use Rattle.machine.{specs.Given.{LedByActsLaw, is_line_of}, proofs.History.{cpu-is}}
 use Rattle.stage_laws.proofs.Counts.{count-append}
-use Rattle.ring_laws.proofs.Small.{lines_counted, ones, all_ones}
+use Rattle.ring_laws.proofs.Small.{lines_counted, all_ones}
 
 -- the lines of an order are at most those of the script
 abbrev one_tool : ToolLine → ℕ

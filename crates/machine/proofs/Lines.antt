@@ -1,7 +1,7 @@
 -- A line of a script, and the room that it has.
-use Rattle.std.specs.Prelude.{◌≡◌, ℕ, ◌+◌, ◌-◌, ◌<◌, ◌≤◌, max, All, List, [], ◌∷◌, drop, fold, length, Some, slice_get, slice_index_or}
+use Rattle.std.specs.Prelude.{◌≡◌, ℕ, ◌+◌, ◌-◌, ◌<◌, ◌≤◌, max, List, [], drop, length, Some, slice_get, slice_index_or}
 use Rattle.std.proofs.{Common.{arith, sym, ap, subst, ◌∙◌, get_or, inl, inr}, lemmas.{Bool.{cases_lt}, List.{get_or_past, get_or-drop, length-drop}}}
-use Rattle.std.proofs.lemmas.{List.Elements.{All-head, All-tail}, Option.{slice_get-get_or}}
+use Rattle.std.proofs.lemmas.{Option.{slice_get-get_or}}
 use Rattle.perf_base.specs.declared.{acts.Act.{Act}, lines.{CpuLine.{CpuLine}, ToolLine.{ToolLine}, Work.{Work}}, numbers.CpuNo.{CpuNo}}
 use Rattle.perf_base.specs.declared.numbers.ToolNo.{ToolNo}
 use Rattle.perf_base.specs.Scripts.{Scripted, IsCovered, IsScript, IsCpuLine, IsToolLine, lines_of_cpu, lines_of_tool}

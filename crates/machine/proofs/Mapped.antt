@@ -1,19 +1,19 @@
 -- The rings that were mapped are rings of the script.
 use Rattle.std.{specs.Prelude.{◌≡◌, ℕ, All, List, [], ◌∷◌, Option, Some, None}, proofs.Common.{refl, sym, subst}}
 use Rattle.std.proofs.lemmas.List.Elements.{All-head, All-nil, All-push, All-tail}
-use Rattle.perf_base.specs.declared.{acts.Act.{Act}, attr.Attr.{Attr}, lines.{CpuLine.{CpuLine}, ToolLine.{ToolLine}}, numbers.CpuNo.{CpuNo}}
-use Rattle.perf_base.specs.declared.{numbers.{EventNo.{EventNo}, RingNo.{RingNo}, TaskNo.{TaskNo}}, reasons.Reason.{Reason}}
+use Rattle.perf_base.specs.declared.{acts.Act.{Act}, lines.{CpuLine.{CpuLine}, ToolLine.{ToolLine}}, numbers.CpuNo.{CpuNo}}
+use Rattle.perf_base.specs.declared.{numbers.{RingNo.{RingNo}, TaskNo.{TaskNo}}, reasons.Reason.{Reason}}
 use Rattle.perf_base.specs.Scripts.{Scripted, HasRing, IsScript, IsToolLine}
 use Rattle.perf_base.specs.declared.lines.CpuLine.TheVariants as cpu_line
 use Rattle.perf_base.specs.declared.lines.ToolLine.TheVariants as tool_line
-use Rattle.stage_spec.specs.{declared.instance.Instance.{Instance}, Closing.{closed}, Commands.{command_each, with_period}, Forks.{forked}}
+use Rattle.stage_spec.specs.{Closing.{closed}, Commands.{command_each, with_period}, Forks.{forked}}
 use Rattle.stage_spec.specs.Hardware.{Hardware, hardware_of}
 use Rattle.stage_spec.specs.History.{Step, CpuStep, ToolStep, SeenStep, cpu_changed, cpu_refusal, history, opening_stage, stage_after, stage_step, tool_changed, tool_refusal, unless_refused}
-use Rattle.stage_spec.specs.{Limits.{Limits, limits_of}, Mapping.{mapped_to, output_to}, Opening.{new_original, opened, placed}}
+use Rattle.stage_spec.specs.{Limits.{Limits, limits_of}, Mapping.{mapped_to, output_to}}
 use Rattle.stage_spec.{specs.Stage.{Stage, first_stage}, proofs.Shape.{exited-numbers, rotated-numbers, settle_all-numbers, switched-numbers}}
 use Rattle.stage_laws.specs.Bounds.{IsLineWithin}
 use Rattle.ring_laws.proofs.Orders.{within}
-use Rattle.stage_laws.proofs.Mapped.{placed-mapped, opened-mapped}
+use Rattle.stage_laws.proofs.Mapped.{opened-mapped}
 
 abbrev AreDeclared : List (RingNo × ℕ) → Stage → Type 0
 AreDeclared rings s = All (HasRing rings) s.mapped

@@ -1,5 +1,5 @@
 -- The end of a ring among those that there are, its account, and what a look at its tail leaves.
-use Rattle.std.specs.Prelude.{◌≡◌, ◌≢◌, ℕ, zero, suc, ◌+◌, ◌<◌, ◌==◌, Bool, true, false, not, cond, AllPairs, List, [], ◌∷◌, map, find, Option, Some, length, slice_get, slice_index_or, slice_set}
+use Rattle.std.specs.Prelude.{◌≡◌, ◌≢◌, ℕ, zero, suc, ◌<◌, ◌==◌, false, AllPairs, List, [], ◌∷◌, map, find, Option, Some, length, slice_get, slice_index_or, slice_set}
 use Rattle.std.proofs.{Common.{arith, refl, sym, ap, subst, ◌∙◌, inl, inr}, lemmas.Bool.{cases_eq, Decides.{nat_tests}}}
 use Rattle.std.proofs.lemmas.Option.{get_or_from_slice_get, none-some, same_Some, slice_get_within}
 use Rattle.perf_base.specs.declared.numbers.RingNo.{RingNo}

@@ -1,5 +1,5 @@
 -- Where given lines, or acts of a script, lead to a machine, its world has room for one line more.
-use Rattle.std.specs.Prelude.{◌≡◌, ◌+◌, ◌*◌, ◌^◌, ◌<◌, ◌≤◌, Bool, true, false, cond, List, [], ◌∷◌, count_by, sum_by, slice_index_or}
+use Rattle.std.specs.Prelude.{◌≡◌, ◌+◌, ◌*◌, ◌^◌, ◌<◌, ◌≤◌, true, List, [], ◌∷◌, count_by, sum_by, slice_index_or}
 use Rattle.std.proofs.{Common.{arith, sym, ap, subst, ◌∙◌}, Math.Path.{fun_ext}, lemmas.List.Sums.{sum_by-cons}}
 use Rattle.perf_base.specs.declared.{acts.Act.{Act}, lines.{CpuLine.{CpuLine}, ToolLine.{ToolLine}}, numbers.{CpuNo.{CpuNo}, EventNo.{EventNo}}}
 use Rattle.perf_base.specs.{declared.numbers.Key.{Key}, Scripts.{Scripted, IsCovered, IsScript}}

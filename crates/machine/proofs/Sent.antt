@@ -1,24 +1,18 @@
 -- A stretch of work sends no more records than the script weighs.
 use Rattle.std.specs.Prelude.{◌≡◌, ◌≤◌, List, [], ◌∷◌, ◌++◌, length}
-use Rattle.std.proofs.{Common.{arith, sym, ap, ◌∙◌, append-nil, append_assoc}, Math.Path.{fun_ext}, lemmas.List.{length-append}}
+use Rattle.std.proofs.{Common.{arith, ap, ◌∙◌, append-nil, append_assoc}, Math.Path.{fun_ext}, lemmas.List.{length-append}}
 use Rattle.perf_base.specs.{declared.{acts.Act.{Act}, lines.Work.{Work}, numbers.CpuNo.{CpuNo}}, Scripts.{Scripted, IsCovered, IsScript}}
 use Rattle.perf_base.specs.Weight.{weight}
 use Rattle.perf_base.specs.declared.acts.Act.TheVariants as act
 use Rattle.perf_base.specs.declared.lines.CpuLine.TheVariants as line
-use Rattle.stage_spec.specs.{Hardware.{Hardware, hardware_of}, History.{Step, CpuStep, history, opening_stage, steps_from, steps_of}}
-use Rattle.stage_spec.specs.Stage.{Stage}
+use Rattle.stage_spec.specs.{Hardware.{Hardware, hardware_of}, History.{Step, CpuStep, history, opening_stage, steps_of}}
+use Rattle.stage_spec.{specs.Stage.{Stage}, proofs.Recurrence.{steps-push}}
 use Rattle.ring_spec.specs.{Running.{record_of}, Sending.{sent_after, sent_by_steps, sent_from}}
 use Rattle.ring_laws.proofs.Orders.{few_of_script}
 use Rattle.sample_ring.specs.RingLists.{OutList}
 use Rattle.world_spec.specs.{Value.{World}}
 use Rattle.work_account.specs.Sampling.{sent_by}
 use Rattle.machine.{specs.Left.{IsLeft}, proofs.RingsThere.{recorded}}
-
--- the history of acts with one act more
-steps-push : (s : Scripted) (before acts : List Act) (a : Act) → steps_from s before (acts ++ a ∷ []) ≡ steps_from s before acts ++ steps_of s (before ++ acts) a
-unfolding steps_from
-steps-push s before [] a = append-nil (steps_of s before a) ∙ ap (λ bs. steps_of s bs a) (sym (append-nil before))
-steps-push s before (b ∷ acts) a = grind (arith, append_assoc, steps-push s (before ++ b ∷ []) acts a)
 
 -- what the last step sends is among all that steps send
 last-sent : (hw : Hardware) (s : Stage) (before steps : List Step) (x : Step) → length (sent_after hw s (before ++ steps) x) ≤ length (sent_from hw s before (steps ++ x ∷ []))

@@ -1,9 +1,10 @@
 -- There is space for the records of the next line of work.
 use Rattle.std.specs.Prelude.{◌≡◌, ℕ, ◌+◌, ◌*◌, ◌^◌, ◌<◌, ◌≤◌, true, All, List, [], ◌∷◌, filter, length, slice_index_or}
-use Rattle.std.proofs.{Common.{arith, sym, ap, subst, ◌∙◌, inl}, Math.Pow.{pow_mono}, lemmas.{Nat.{mul-le}, List.{length-map}}}
+use Rattle.std.proofs.{Common.{arith, sym, ap, subst, ◌∙◌, inl}, lemmas.{Nat.{mul-le}, List.{length-map}}}
 use Rattle.std.proofs.lemmas.List.{Elements.{All-cons, All-head, All-map, All-nil, All-tail, All-weaker}, Sums.{count_by-le-length, length-filter}}
 use Rattle.perf_base.specs.declared.{acts.Act.{Act}, numbers.{EventNo.{EventNo}, Key.{Key}, RingNo.{RingNo}}}
 use Rattle.perf_base.specs.{Scripts.{Scripted, IsCovered, IsRingLine, IsScript}, Weight.{weight}}
+use Rattle.perf_base.proofs.Limits.{ring_bytes}
 use Rattle.stage_spec.specs.{Hardware.{Hardware, hardware_of}, History.{Step, history, opening_stage}, Stage.{Stage, is_open}}
 use Rattle.ring_spec.specs.{Account.{RingEvent, Sends, head_of, is_sent}, Rings.{account_in, account_of, events_of, is_to}}
 use Rattle.ring_spec.{specs.{Running.{RingAccount, Running, record_of}, Sending.{SentSample, sent_by_steps}}, proofs.Conserved.{sent_law}}
@@ -31,9 +32,6 @@ ring-lost hw s steps ring =
     let sends : length (filter is_sent events) ≡ length sents = ap length (sends_law hw s steps ring.0) ∙ length-map sents (λ (sent : RingNo × SentSample). Sends sent.1) in
     omega (arith, sends, sent_law ring.1 events, length-filter is_sent events, length-filter (is_to ring.0) (sent_by_steps hw s steps), count_by-le-length (is_to ring.0) (sent_by_steps hw s steps))
 
-ring-bytes : (ring : RingNo × ℕ) → IsRingLine ring → ring.1 ≤ 65536
-ring-bytes ring h = let P : ℕ → Type 0 = λ n. n ≤ 65536 in subst P (sym h.1.3) (pow_mono h.1.2)
-
 rings-small : (s : Scripted) (acts : List Act) → IsScript s → IsCovered s → All (IsSmall s) (record_of (hardware_of s) (opening_stage s) s.rings (history s acts)).rings
 rings-small s acts script covered =
     let its-account : RingNo × ℕ → RingAccount = in_account (account_in s acts) in
@@ -41,7 +39,7 @@ rings-small s acts script covered =
     (All-map (IsSmall s) its-account s.rings (All-weaker IsRingLine (λ ring. IsSmall s (its-account ring)) (λ ring its. record {
       head = heads s acts ring script covered;
       lost = omega (arith, ring-lost (hardware_of s) (opening_stage s) (history s acts) ring, few_of_script s acts script covered);
-      bytes = ring-bytes ring its;
+      bytes = ring_bytes ring its;
     }) s.rings script.rings))
 
 -- so many records move its head and its count of losses no further than there is space

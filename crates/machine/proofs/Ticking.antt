@@ -1,6 +1,5 @@
 -- A tick.
-use Rattle.std.{specs.Prelude.{◌≡◌, ℕ, ◌<◌, length, Option, Some, None}, proofs.Common.{arith, refl, sym, ap, subst, ◌∙◌, inl, inr}}
-use Rattle.std.proofs.lemmas.Bool.{cases_eq}
+use Rattle.std.{specs.Prelude.{◌≡◌, ◌<◌, length, Option, Some, None}, proofs.Common.{arith, refl, sym, ap, subst, ◌∙◌}}
 use Rattle.perf_base.specs.declared.numbers.{CpuNo.{CpuNo}, TaskNo.{TaskNo}}
 use Rattle.perf_base.specs.declared.lines.CpuLine.TheVariants as line
 use Rattle.perf_base.specs.declared.reply.Reply.TheVariants as reply
@@ -11,13 +10,13 @@ use Rattle.world_spec.specs.{Kept.{IsKept}, Rescheduled.{AreUntouchedBut, IsResc
 use Rattle.world_spec.{specs.Value.{World}, proofs.{Lines.{KeepsAll}, Stepping.{stepped}}}
 use Rattle.cpu_sched.specs.Resched.{StaysBut}
 use Rattle.task_moves.specs.Turning.{turn_in, turn_of_task, turned_world}
-use Rattle.machine.{specs.Stepped.{limits_in, IsReady}, proofs.Keeping.{kept-stepped, kept-ready, one-below}}
+use Rattle.machine.{specs.Stepped.{limits_in, IsReady}, proofs.Keeping.{kept-stepped, kept-ready, one-below, rescheduled-but}}
 use Rattle.machine.proofs.Settling.{one-settled}
 use Rattle.machine.specs.Stepped as stepped_line
 use Rattle.work_account.proofs.Accounts.{nothing-lost}
 
 -- What is told of a tick: the worlds before it, after the groups took turns, and after the processor was rescheduled.
-pub record Course (w v x : World) (cpu : CpuNo) : Type 0 where
+pub record TickCourse (w v x : World) (cpu : CpuNo) : Type 0 where
   pub kept : IsKept w.hardware w
   pub ready : IsReady w
   pub low : cpu.0 < length w.quiet.running
@@ -38,10 +37,10 @@ task-lists cpu (Some task) w = record { is = refl }
 pub only-lists : (cpu : CpuNo) (w v : World) → v ≡ turned_world cpu w → v ≡ record w { contexts = v.contexts }
 only-lists cpu w v is = (subst (OnlyLists w) (sym is) (task-lists cpu (task_on (stage_of w) cpu) w)).is
 
-tick-keeps : (w v x : World) (cpu : CpuNo) → Course w v x cpu → KeepsAll w x
+tick-keeps : (w v x : World) (cpu : CpuNo) → TickCourse w v x cpu → KeepsAll w x
 tick-keeps w v x cpu c = grind (arith, only-lists)
 
-tick-stage : (w v x : World) (cpu : CpuNo) → Course w v x cpu → stage_of x ≡ stage_step w.hardware (stage_of w) (CpuStep cpu line.Tick)
+tick-stage : (w v x : World) (cpu : CpuNo) → TickCourse w v x cpu → stage_of x ≡ stage_step w.hardware (stage_of w) (CpuStep cpu line.Tick)
 tick-stage w v x cpu c =
     let hw : Hardware = w.hardware in
     let lists : v ≡ record w { contexts = v.contexts } = only-lists cpu w v c.world in
@@ -52,7 +51,7 @@ tick-stage w v x cpu c =
     ∙ (sym (one-settled hw cpu (rotated hw cpu (stage_of w)))
     ∙ (ap (λ cs. settle_each hw cs (rotated hw cpu (stage_of w))) (sym (one-below cpu (length w.quiet.running) c.low)) ∙ sym narrow.stage)))
 
-pub tick-done : (w v x : World) (cpu : CpuNo) → Course w v x cpu → stepped_line.IsDone (CpuStep cpu line.Tick) w x reply.Ok
+pub tick-done : (w v x : World) (cpu : CpuNo) → TickCourse w v x cpu → stepped_line.IsDone (CpuStep cpu line.Tick) w x reply.Ok
 tick-done w v x cpu c by agrees =
     let keeps : KeepsAll w x = tick-keeps w v x cpu c in
     record {
@@ -61,17 +60,9 @@ tick-done w v x cpu c by agrees =
           (kept-stepped w x (CpuStep cpu line.Tick) c.kept c.kept_then keeps refl (λ e. refl) (λ own. refl) (tick-stage w v x cpu c)) (nothing-lost cpu line.Tick by.rings);
     }
 
-pub tick-ready : (w v x : World) (cpu : CpuNo) → Course w v x cpu → IsRescheduled v.hardware x cpu
-    → AreUntouchedBut cpu w v
-    → AreUntouchedBut cpu v x → IsReady x
-tick-ready w v x cpu c own turned rescheduled =
+pub tick-ready : (w v x : World) (cpu : CpuNo) → TickCourse w v x cpu → IsRescheduled v.hardware x cpu → AreUntouchedBut cpu w v → AreUntouchedBut cpu v x → IsReady x
+tick-ready w v x cpu c own left others =
     let lists : v ≡ record w { contexts = v.contexts } = only-lists cpu w v c.world in
-    let same : v.hardware ≡ w.hardware = ap (λ (y : World). y.hardware) lists in
     let keeps : KeepsAll w x = tick-keeps w v x cpu c in
-    kept-ready w x (CpuStep cpu line.Tick) c.ready (c.low, tt) keeps (tick-stage w v x cpu c) (λ other low. elim (cases_eq other.0 cpu.0) [
-      | inl e ↦ subst (λ (hw : Hardware). IsRescheduled hw x other) same (subst (λ (n : ℕ). IsRescheduled v.hardware x (record { 0 = n })) (sym e) own)
-      | inr apart ↦
-          let within : other.0 < length w.quiet.running = omega (arith, low, keeps.running) in
-          let before : IsRescheduled v.hardware v other = subst (λ (hw : Hardware). IsRescheduled hw v other) (sym same) ((turned other within apart).rescheduled (c.ready.rescheduled other within)) in
-          subst (λ (hw : Hardware). IsRescheduled hw x other) same ((rescheduled other (omega (arith, within, ap (λ (y : World). length y.quiet.running) lists)) apart).rescheduled before)
-    ])
+    kept-ready w x (CpuStep cpu line.Tick) c.ready (c.low, tt) keeps (tick-stage w v x cpu c)
+    (rescheduled-but w v x cpu (ap (λ (y : World). y.hardware) lists) (ap (λ (y : World). length y.quiet.running) lists) keeps.running c.ready.rescheduled own left others)

@@ -1,10 +1,10 @@
 -- Lines of tools that are accepted: what is changed, and then rescheduled, is done.
-use Rattle.std.{specs.Prelude.{◌≡◌, ℕ, ◌<◌, Bool, true, false, List, length, filter, slice_index_or, None, Result, Ok, Err, IfOk}, proofs.{Common.{arith, refl, sym, ap, subst, ◌∙◌}, lemmas.Bool.{false≢true}}}
+use Rattle.std.{specs.Prelude.{◌≡◌, ℕ, ◌<◌, Bool, false, List, length, filter, slice_index_or, None, Result, Ok, Err, IfOk}, proofs.{Common.{arith, refl, sym, ap, subst, ◌∙◌}, lemmas.Bool.{false≢true}}}
 use Rattle.perf_base.specs.{Cpus.{HasCpu}, declared.{lines.ToolLine.{ToolLine}, numbers.{CpuNo.{CpuNo}, CpuSet.{CpuSet}, EventNo.{EventNo}, Key.{Key}, RingNo.{RingNo}}}}
 use Rattle.perf_base.specs.declared.{reasons.Reason.{Reason}, reply.{Reply.{Reply}, Sums.{Sums}}}
 use Rattle.perf_base.specs.declared.lines.ToolLine.TheVariants as line
 use Rattle.perf_base.specs.declared.reply.Reply.TheVariants as reply
-use Rattle.stage_spec.specs.{Hardware.{Hardware}, History.{Step, ToolStep, tool_refusal, stage_step}, Limits.{Limits, IsMachine}}
+use Rattle.stage_spec.specs.{Hardware.{Hardware}, History.{Step, ToolStep, tool_refusal, stage_step}, Limits.{IsMachine}}
 use Rattle.stage_spec.specs.{Replies.{UnlessRefused, IsToolReply}, Settle.{settle_each}, Shares.{no_sums}, Stage.{Stage, all_cpus}}
 use Rattle.stage_laws.{specs.Narrowing.{IsNarrow, tool_touches, touches}, proofs.Narrow.{narrows}}
 use Rattle.ring_spec.specs.{Agreement.{IsCurrentSlot}, Running.{family_by}}

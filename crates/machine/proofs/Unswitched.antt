@@ -1,5 +1,5 @@
 -- A switch to what already runs.
-use Rattle.std.specs.Prelude.{◌≡◌, ℕ, ◌<◌, Bool, true, false, not, [], Option, None, slice_index_or}
+use Rattle.std.specs.Prelude.{◌≡◌, ℕ, ◌<◌, true, [], Option, None, slice_index_or}
 use Rattle.std.proofs.Common.{arith, refl, sym, ap, ◌∙◌}
 use Rattle.perf_base.specs.declared.{numbers.{CpuNo.{CpuNo}, Key.{Key}, TaskNo.{TaskNo}}}
 use Rattle.perf_base.specs.declared.lines.CpuLine.TheVariants as line
@@ -12,10 +12,6 @@ use Rattle.world_spec.{specs.Stepping.{HasStepped, HasItsShare}, proofs.Stepping
 use Rattle.machine.{specs.Stepped.{IsReady}, proofs.{Asking.{settled-below}, Refused.{accepted-cpu}, TaskChange.{none-given}}}
 use Rattle.machine.specs.Stepped as stepped_line
 use Rattle.work_account.proofs.Accounts.{nothing-lost}
-
-pub runs-there : (b : Bool) → not b ≡ false → b ≡ true
-runs-there true h = refl
-runs-there false h = absurd (cc)
 
 -- What is told of a switch to what already runs.
 pub record Still (w : World) (cpu : CpuNo) (to : Option TaskNo) : Type 0 where

@@ -1,5 +1,5 @@
 -- Slots that were not used stay clear.
-use Rattle.std.specs.Prelude.{◌≡◌, ◌≢◌, ℕ, zero, suc, ◌==◌, Bool, true, false, not, ◌&&◌, ◌||◌, List, [], ◌∷◌, ◌++◌, replicate, slice_index_or, slice_set, if◌then◌else◌}
+use Rattle.std.specs.Prelude.{◌≡◌, ◌≢◌, ℕ, ◌==◌, Bool, true, false, ◌||◌, List, [], ◌∷◌, ◌++◌, slice_index_or, slice_set, if◌then◌else◌}
 use Rattle.std.{specs.List.{list_any}, proofs.Common.{refl, sym, ap, ◌∙◌, inl, inr}}
 use Rattle.std.proofs.lemmas.{Bool.{cases_Bool, false≢true}, List.{get_or-set_other, Folds.{list_any-append}}}
 use Rattle.perf_base.specs.declared.{numbers.{EventNo.{EventNo}, Key.{Key}, TaskNo.{TaskNo}}, reply.Sums.{Sums}}

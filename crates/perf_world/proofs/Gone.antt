@@ -1,6 +1,6 @@
 -- What an instance that goes leaves of the tables of a world.
-use Rattle.std.specs.Prelude.{◌≡◌, ℕ, ◌<◌, ◌≤◌, ◌==◌, Bool, true, false, ◌&&◌, List, [], ◌∷◌, length, map, slice_index_or, slice_set}
-use Rattle.std.{specs.List.{fold, list_all}, proofs.{Common.{arith, refl, sym, ap, subst, ◌∙◌, zero, suc}, lemmas.Bool.Decides.{nat_tests}}}
+use Rattle.std.specs.Prelude.{◌≡◌, ℕ, ◌≤◌, ◌==◌, Bool, true, false, ◌&&◌, List, [], ◌∷◌, map, slice_index_or, slice_set}
+use Rattle.std.{specs.List.{fold, list_all}, proofs.{Common.{arith, refl, sym, ap, subst, ◌∙◌}, lemmas.Bool.Decides.{nat_tests}}}
 use Rattle.perf_base.specs.declared.{numbers.{EventNo.{EventNo}, Key.{Key}, RingNo.{RingNo}, CpuNo.{CpuNo}}, reply.Sums.{Sums}}
 use Rattle.stage_spec.specs.{declared.instance.{Instance.{Instance}, TaskStatus.{TaskStatus}}, Families.{plus}, Hardware.{Hardware, is_counted_on}}
 use Rattle.stage_spec.specs.{Shares.{no_sums}, Effective.{is_ready}, Places.{may_count_on}, Stage.{members_of}, Verdict.{is_eligible}}
@@ -11,7 +11,7 @@ use Rattle.world_spec.proofs.{Accounts.{counts_are_sums, times_are_sums}, Keys.{
 use Rattle.world_tables.specs.{Columns.{Columns, is_there, entry_in, account_in, taken}, Places.{Slots, Places, IsBelow, with_family}}
 use Rattle.perf_world.{specs.{Parts.{free_one, left_events, left_contexts, behind}, Seen.{seen, IsWorld}}, proofs.Kept.{part-of-sum, in-family}}
 use Rattle.perf_world.proofs.Tables.{freed-keys}
-use Rattle.world_spec.proofs.Copies.{times-at}
+use Rattle.world_spec.proofs.{WaysGone.{leader-live}}
 
 -- freed siblings, in the world and in the table
 module _ (hw : Hardware) (contexts : List Leaders) (families : Slots) (processors : Places) (tasks : List TaskStatus) (used : List EventNo) (mapped : List RingNo) (next : ℕ) where
@@ -44,17 +44,13 @@ pub left-there : (k : Key) (leads : Bool) (t : Columns) → is_there t (entry_in
 left-there k true t leader h q = freed-all (after_first (entry_in t k).members) t h q
 left-there k false t leader h q = keys-written t.entries (entry_in t k).leader.0 _ leader q.0
 
-after-times : (q : Key) (keys : List Key) → times q (after_first keys) ≤ times q keys
+pub after-times : (q : Key) (keys : List Key) → times q (after_first keys) ≤ times q keys
 after-times q [] = omega arith
 after-times q (k ∷ keys) = omega (arith, times-cons q k keys)
 
 pub counted : (b c : Bool) → 1 ≤ once_if (b && c) → b ≡ true
 counted true c h = refl
 counted false c h = absurd (omega (arith, h))
-
-led-live : (b c : Bool) → (b && c) ≡ true → b ≡ true
-led-live true c h = refl
-led-live false c h = absurd (cc)
 
 module _ (hw : Hardware) (w : World) (h : IsKept hw w) where
   -- members of a group are there
@@ -84,7 +80,7 @@ module _ (hw : Hardware) (w : World) (h : IsKept hw w) where
 
   -- the leader of an instance is there
   pub leader-there : (k : Key) → is_live w k ≡ true → is_live w (entry_at w k).leader ≡ true
-  leader-there k live = led-live (is_live w (entry_at w k).leader) (is_key (entry_at w k).leader (entry_at w (entry_at w k).leader).leader) (h.grouped.led k live)
+  leader-there k live = leader-live hw w k h live
 
 -- the families after the folded sums took in what an instance has counted
 abbrev pub fold_families : Key → World → Slots → Slots

@@ -1,7 +1,7 @@
 -- How many keys there can be in the lists of a kept world: no more than there are slots and contexts for them.
 use Rattle.std.specs.Prelude.{◌≡◌, ℕ, ◌+◌, ◌<◌, ◌≤◌, ◌==◌, eqb, Bool, true, false, ◌&&◌, ◌||◌, List, [], ◌∷◌, ◌++◌, length, map, slice_index_or, if◌then◌else◌}
 use Rattle.std.{specs.List.{list_any, IsDistinct, AllByRecursion}, proofs.Common.{arith, refl, sym, ap, ◌∙◌, inl, inr}}
-use Rattle.std.proofs.lemmas.{Bool.{cases_Bool, cases_eq, Decides.{nat_tests, eqb_tells}}, List.{length-map}}
+use Rattle.std.proofs.lemmas.{Bool.{cases_Bool, cases_eq, Decides.{eqb_tells}}, List.{length-map}}
 use Rattle.std.proofs.lemmas.Map.Steps.{length-le_from_distinct_below}
 use Rattle.perf_base.specs.declared.numbers.Key.{Key}
 use Rattle.stage_spec.specs.{Hardware.{Hardware}, Stage.{place_of}}

@@ -2,7 +2,7 @@
 use Rattle.std.specs.Prelude.{◌≡◌, ℕ, ◌<◌, ◌==◌, Bool, true, false, ◌||◌, All, List, [], ◌∷◌, ◌++◌, length, map, Result, Ok, Err, OnOk, OnErr, slice_index_or, slice_set, if◌then◌else◌}
 use Rattle.std.{specs.List.{list_any}, proofs.{Common.{arith, refl, sym, ap, subst, ◌∙◌, inl, inr, zero, suc}, lemmas.Bool.{cases_eq}}}
 use Rattle.std.proofs.lemmas.Bool.Decides.{nat_tests}
-use Rattle.std.proofs.lemmas.List.{map-append, length-append, length-map, ext_get_or, get_or-map, get_or-set_same, get_or-set_other}
+use Rattle.std.proofs.lemmas.List.{map-append, length-map, ext_get_or, get_or-map, get_or-set_same, get_or-set_other}
 use Rattle.std.proofs.{lemmas.List.{Elements.{All-append}, Folds.{list_any-append}}, Math.{ListN.{get_or-append}, Seq.{get_or-append_seam}}}
 use Rattle.perf_base.specs.{Masks.{IsMask}, declared.numbers.{EventNo.{EventNo}, TaskNo.{TaskNo}}}
 use Rattle.stage_spec.specs.{declared.instance.TaskStatus.{TaskStatus}, Fits.{IsAssignment}, Numbers.{numbers_below}}

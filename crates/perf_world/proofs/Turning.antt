@@ -14,12 +14,12 @@ use Rattle.world_spec.specs.Value.{World, Entry, Leaders, no_entry, no_leaders, 
 use Rattle.world_spec.specs.{Kept.{post_at, leads, once_if, is_member_of, IsKept}, Changes.{place}, Metering.{goes_along, IsWorked, HasMeterRoom}}
 use Rattle.world_spec.specs.{Shares.{HaveRoom}, Ways.{Way, IsTurned, KeepsWay, is_context_of, is_on_at}}
 use Rattle.world_spec.proofs.{Keys.{key-is, is_key-same, is_key-other, times-cons, once-true, once-false}, Metering.{work-kept, work-ways}}
-use Rattle.world_spec.proofs.{Moving.{leads-parts}, Tables.{get-here, get-there}, Ways.{still-turned, outside-context, turn-about}}
+use Rattle.world_spec.proofs.{Moving.{leads-parts}, Tables.{get-here, get-there}, Ways.{still-turned, outside-context}}
 use Rattle.world_tables.specs.{Columns.{Columns, is_there, way_in, put_way}, Meters.{goes_along as along, no_way}, Places.{Places}}
 use Rattle.perf_world.specs.Seen.{IsWorld}
 use Rattle.perf_world.specs.Settling.{bare, AreClear, AreLed, HasSettled, AreTurned, IsStored, group_keys, list_keys, task_leaders, task_keys}
-use Rattle.world_spec.proofs.Copies.{times-at}
-use Rattle.world_spec.proofs.WaysGone.{leader-live}
+use Rattle.world_spec.proofs.{Along.{once-both, once-three}, WaysGone.{leader-live}}
+use Rattle.perf_world.proofs.Gone.{after-times, member-live}
 
 -- what is stored goes along an equation
 pub stored-after : (t : Columns) (seen after : World) → seen ≡ after → IsWorld after → AreTurned t after → AreClear seen → IsStored t seen
@@ -101,17 +101,9 @@ pub written-part : {X : Type 0} (f : Entry → X) (w : World) (k : Key) (e : Ent
 written-part f w k e same j = grind (arith, nat_tests, get-here, key-is, get-there)
 
 -- In a kept world the leader of an event is there, and so are the members of groups.
-member-live : (hw : Hardware) (w : World) (q k : Key) → IsKept hw w → 1 ≤ times k (entry_at w q).members → is_live w k ≡ true
-member-live hw w q k h some =
-    (leads-parts (is_live w k) (is_key q (entry_at w k).leader) (once-both (is_member_of (post_at w) q k) (omega (arith, some, h.linked.members k q)))).0
-  where
-    once-both : (b : Bool) → 1 ≤ once_if b → b ≡ true
-    once-both true some = refl
-    once-both false some = absurd (omega (arith, some))
-
 pub group-led : (hw : Hardware) (w : World) (q : Key) → IsKept hw w → (k : Key) → 1 ≤ times k (entry_at w q).members
     → (is_live w k ≡ true) × (is_live w (entry_at w k).leader ≡ true)
-group-led hw w q h k some = let live : is_live w k ≡ true = member-live hw w q k h some in (live, leader-live hw w k h live)
+group-led hw w q h k some = let live : is_live w k ≡ true = member-live hw w h q k some in (live, leader-live hw w k h live)
 
 pub list-led : (hw : Hardware) (w : World) (leaders : List Key) → IsKept hw w → (k : Key) → 1 ≤ times k (flat_map (λ q. (entry_at w q).members) leaders)
     → (is_live w k ≡ true) × (is_live w (entry_at w k).leader ≡ true)
@@ -129,25 +121,16 @@ pub task-nowhere : (running : List (Option TaskNo)) (task : TaskNo) → ((cpu : 
     → is_task (slice_index_or running cpu.0 None) task ≡ false
 task-nowhere running task none cpu = grind (arith, nat_tests, is_task-some)
 
--- the tests of a way, part by part
-pub on-ready : (ready stands : Bool) → (ready && stands) ≡ true → ready ≡ true
-on-ready true stands h = refl
-on-ready false stands h = absurd (false≢true h)
-
 -- The leaders that stand in the lists of a context lead, and so all members of a task's groups are there.
-listed-leads : (lead other third : Bool) → 1 ≤ once_if (lead && other && third) → lead ≡ true
-listed-leads true other third h = refl
-listed-leads false other third h = absurd (omega (arith, h))
-
 pub pinned-live : (hw : Hardware) (w : World) (c : Context) (q : Key) → IsKept hw w → 1 ≤ times q (leaders_of w c).pinned → is_live w q ≡ true
 pinned-live hw w c q h some =
     (leads-parts (is_live w q) (is_key q (entry_at w q).leader)
-    (listed-leads (leads (post_at w) q) (place_of (entry_at w q).context == place_of c) (if (entry_at w q).pinned then true else false) (omega (arith, some, h.linked.pinned q (place_of c))))).0
+    (once-three (leads (post_at w) q) (place_of (entry_at w q).context == place_of c) (if (entry_at w q).pinned then true else false) (omega (arith, some, h.linked.pinned q (place_of c)))).0).0
 
 pub flexible-live : (hw : Hardware) (w : World) (c : Context) (q : Key) → IsKept hw w → 1 ≤ times q (leaders_of w c).flexible → is_live w q ≡ true
 flexible-live hw w c q h some =
     (leads-parts (is_live w q) (is_key q (entry_at w q).leader)
-    (listed-leads (leads (post_at w) q) (place_of (entry_at w q).context == place_of c) (if (entry_at w q).pinned then false else true) (omega (arith, some, h.linked.flexible q (place_of c))))).0
+    (once-three (leads (post_at w) q) (place_of (entry_at w q).context == place_of c) (if (entry_at w q).pinned then false else true) (omega (arith, some, h.linked.flexible q (place_of c)))).0).0
 
 -- The events of a task, in the tables of a world.
 module _ (hw : Hardware) (w : World) (h : IsKept hw w) (t : Columns) (contexts : List Leaders) (entries : t.entries ≡ w.entries) (lists : contexts ≡ w.contexts) where
@@ -273,16 +256,8 @@ sibling-apart hw w key k h among same =
     let is : k ≡ key = key-is k key same in
     let all : times key (entry_at w key).members ≡ once_if (is_member_of (post_at w) key key) = h.linked.members key key in
     let some : 1 ≤ times key (after_first (entry_at w key).members) = subst (λ (q : Key). 1 ≤ times q (after_first (entry_at w key).members)) is among in
-    let more : times key (after_first (entry_at w key).members) ≤ times key (entry_at w key).members = after-few key (entry_at w key).members in
+    let more : times key (after_first (entry_at w key).members) ≤ times key (entry_at w key).members = after-times key (entry_at w key).members in
     let mine : is_member_of (post_at w) key key ≡ true = once-both (is_member_of (post_at w) key key) (omega (arith, some, more, all)) in
     let first : (entry_at w key).members ≡ key ∷ after_first (entry_at w key).members = h.grouped.leader_first key mine in
     let own : is_key key key ≡ true = grind (arith, nat_tests) in
     omega (arith, some, all, ap (times key) first, times-cons key key (after_first (entry_at w key).members), once-true (is_key key key) own, once-true (is_member_of (post_at w) key key) mine)
-  where
-    once-both : (b : Bool) → 1 ≤ once_if b → b ≡ true
-    once-both true some = refl
-    once-both false some = absurd (omega (arith, some))
-
-    after-few : (q : Key) (keys : List Key) → times q (after_first keys) ≤ times q keys
-    after-few q [] = omega arith
-    after-few q (x ∷ keys) = omega (arith, times-cons q x keys)

@@ -1,5 +1,5 @@
 -- A line of work, in the tables of a world.
-use Rattle.std.{specs.Prelude.{◌≡◌, ℕ, ◌==◌, Bool, true, false, ◌&&◌, List, if◌then◌else◌}, proofs.Common.{arith, refl, sym, ap, ◌∙◌}}
+use Rattle.std.{specs.Prelude.{◌≡◌, ℕ, ◌==◌, Bool, true, false, ◌&&◌, List, if◌then◌else◌}, proofs.{Common.{arith, refl, sym, ap, ◌∙◌}, Math.Bool.{and-true, and-false}}}
 use Rattle.perf_base.specs.declared.{attr.Attr.{Attr}, lines.Work.{Work}, numbers.{CpuNo.{CpuNo}, EventNo.{EventNo}, Key.{Key}, RingNo.{RingNo}}}
 use Rattle.perf_base.specs.declared.reply.Sums.{Sums}
 use Rattle.perf_base.specs.declared.lines.CpuLine.TheVariants as cpu_line
@@ -18,29 +18,21 @@ module _ (work : Work) (cpu : CpuNo) (a : Attr) where
       → g.count ≡ (if on_at && goes_along a then counted_by work a a.kind else 0) → g.enabled ≡ (if ready_at then work.length else 0) → g.running ≡ (if on_at then work.length else 0)
       → (if there then given work (record { cpu = cpu; ready = ready; on = on }) a else no_sums) ≡ g
   by-tests ready on true ready_at on_at g r o count enabled running =
-      let is_ready : ready ≡ ready_at = sym (both ready) ∙ r in
-      let is_on : on ≡ on_at = sym (both on) ∙ o in
+      let is_ready : ready ≡ ready_at = sym (and-true ready) ∙ r in
+      let is_on : on ≡ on_at = sym (and-true on) ∙ o in
       λ i. record {
         count = (ap (λ b. if b && goes_along a then counted_by work a a.kind else 0) is_on ∙ sym count) i;
         enabled = (ap (λ b. if b then work.length else 0) is_ready ∙ sym enabled) i;
         running = (ap (λ b. if b then work.length else 0) is_on ∙ sym running) i;
       }
-    where
-      both : (b : Bool) → (b && true) ≡ b
-      both true = refl
-      both false = refl
   by-tests ready on false ready_at on_at g r o count enabled running =
-      let not_ready : ready_at ≡ false = sym r ∙ none ready in
-      let not_on : on_at ≡ false = sym o ∙ none on in
+      let not_ready : ready_at ≡ false = sym r ∙ and-false ready in
+      let not_on : on_at ≡ false = sym o ∙ and-false on in
       λ i. record {
         count = sym (count ∙ ap (λ b. if b && goes_along a then counted_by work a a.kind else 0) not_on) i;
         enabled = sym (enabled ∙ ap (λ b. if b then work.length else 0) not_ready) i;
         running = sym (running ∙ ap (λ b. if b then work.length else 0) not_on) i;
       }
-    where
-      none : (b : Bool) → (b && false) ≡ false
-      none true = refl
-      none false = refl
 
 module _ (hw : Hardware) (t : Columns) (contexts : List Leaders) (families : Slots) (processors : Places) (tasks : List TaskStatus) (used : List EventNo) (mapped : List RingNo) (next : ℕ) where
   abbrev world : Columns → World

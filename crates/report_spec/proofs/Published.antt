@@ -3,6 +3,7 @@ use Rattle.std.specs.Prelude.{◌≡◌, ℕ, ◌+◌, ◌-◌, ◌<◌, ◌≤�
 use Rattle.std.proofs.{Common.{arith, refl, sym, ap, subst, ◌∙◌, inl, inr, get_or, append_assoc, append-nil}, lemmas.List.{length-append}}
 use Rattle.std.proofs.lemmas.List.Elements.{All-cons, Contains-append_left, Contains-append_right, Contains-append_cases, Contains-push, Contains-push_cases}
 use Rattle.std.proofs.lemmas.{List.Kept.{AllPairs-cons}, Option.{slice_get-get_or}, Bool.{false≢true}}
+use Rattle.perf_base.proofs.FlatMaps.{flat_map_after-append}
 use Rattle.perf_base.specs.{declared.{numbers.EventNo.{EventNo}, acts.Act.{Act}}, Scripts.{Scripted}}
 use Rattle.perf_base.specs.declared.acts.Act.TheVariants as act
 use Rattle.user_page.specs.{declared.look.Look.{Look}, Looks.{zero_look, last_look}}
@@ -12,8 +13,7 @@ use Rattle.report_spec.specs.Laws.{NoActsLaw, OneMoreLaw, RingsLaw, FrontsLaw, R
 looks_from-append : (s : Scripted) (before front rest : List Act) (e : EventNo)
     → looks_from s before (front ++ rest) e ≡ looks_from s before front e ++ looks_from s (before ++ front) rest e
 unfolding looks_from
-looks_from-append s before [] rest e = ap (λ done. looks_from s done rest e) (sym (append-nil before))
-looks_from-append s before (a ∷ front) rest e = grind (arith, append_assoc, looks_from-append s (before ++ a ∷ []) front rest e)
+looks_from-append s before front rest e = flat_map_after-append (λ done a. looks_by s done a e) before front rest
 
 pub no-acts : NoActsLaw
 unfolding published_looks looks_from

@@ -2,6 +2,7 @@
 -- The looks at an event that are published on a page while a script is run, and what `watch` writes of them. This
 -- project's own profile, in the place of struct perf_event_mmap_page of perf_event_open(2).
 use Rattle.std.specs.Prelude.{◌≡◌, ℕ, Bool, true, false, List, [], ◌∷◌, ◌++◌, length, Contains, codes, decimal, Some}
+use Rattle.perf_base.specs.FlatMaps.{flat_map_after}
 use Rattle.perf_base.specs.{declared.{numbers.EventNo.{EventNo}, acts.Act.{Act}, reply.Sums.{Sums}}, Scripts.{Scripted}}
 use Rattle.perf_base.specs.declared.acts.Act.TheVariants as act
 use Rattle.stage_spec.specs.{Stage.{is_open}, Tables.{family_in, stage_in}}
@@ -33,8 +34,7 @@ looks_by s before a e = looks_if (publishes s before a e) (look_after s (before 
 
 -- what acts publish, the first of them after some acts
 unfoldable pub looks_from : Scripted → (before acts : List Act) → EventNo → List Look
-looks_from s before [] e = []
-looks_from s before (a ∷ acts) e = looks_by s before a e ++ looks_from s (before ++ a ∷ []) acts e
+looks_from s before acts e = flat_map_after (λ done a. looks_by s done a e) before acts
 
 -- The looks that an order publishes: one of zeros, and then those of its acts.
 unfoldable pub published_looks : Scripted → List Act → EventNo → List Look

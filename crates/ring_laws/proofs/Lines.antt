@@ -74,14 +74,12 @@ few-numbers : {X : Type 0} (k : ℕ) (numbers : List ℕ) (lists : List (List X)
     → count_by (λ n. nat_le k n) numbers ≤ sum_by length lists
 few-numbers k numbers [] h = above-none k numbers h
 few-numbers {X = X} k numbers (xs ∷ lists) h =
-    let first : count_by (λ n. n == k) numbers ≤ length xs = rw (ap (λ j. count_by (λ (n : ℕ). n == j) numbers) (zero-more k)) (h 0) in
+    let from : k ≡ k + 0 = omega arith in
+    let first : count_by (λ n. n == k) numbers ≤ length xs = rw (ap (λ j. count_by (λ (n : ℕ). n == j) numbers) from) (h 0) in
     let rest : count_by (λ n. nat_le (suc k) n) numbers ≤ sum_by length lists =
     few-numbers (suc k) numbers lists (λ i. rw (ap (λ j. count_by (λ (n : ℕ). n == j) numbers) (one-more k i)) (h (suc i))) in
     omega (arith, above-next k numbers, first, rest, sum_by-cons (length {A = X}) xs lists)
   where
-    zero-more : (k : ℕ) → k ≡ k + 0
-    zero-more k = omega arith
-
     one-more : (k i : ℕ) → suc k + i ≡ k + suc i
     one-more k i = omega arith
 

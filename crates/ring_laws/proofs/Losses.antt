@@ -1,12 +1,12 @@
 -- What is lost and where heads stand: few, over the orders of a script.
-use Rattle.std.specs.Prelude.{◌≡◌, ℕ, suc, ◌+◌, ◌*◌, ◌≤◌, ◌==◌, All, Bool, true, false, cond, List, [], ◌∷◌, length, sum_by, count_by, ◌≢◌, ◌<◌, AllPairs, filter, slice_index_or}
-use Rattle.std.proofs.{Common.{arith, refl, ap, sym, inl, inr, ◌∙◌}, lemmas.List.{length-append, length-map, Elements.{All-head, All-tail}}}
+use Rattle.std.specs.Prelude.{◌≡◌, ℕ, suc, ◌+◌, ◌≤◌, ◌==◌, All, Bool, true, false, cond, List, [], ◌∷◌, length, sum_by, count_by, ◌≢◌, ◌<◌, AllPairs, filter, slice_index_or}
+use Rattle.std.proofs.{Common.{arith, refl, ap, sym, inl, inr, ◌∙◌}, lemmas.List.{length-map, Elements.{All-head, All-tail}}}
 use Rattle.std.proofs.lemmas.{List.Sums.{sum_by-cons, sum_by-le-sum_by, length-filter, count_by-le-length}, Bool.{cases_eq, Decides.{nat_tests}}}
 use Rattle.perf_base.specs.declared.numbers.{EventNo.{EventNo}, RingNo.{RingNo}}
 use Rattle.stage_spec.specs.{Hardware.{Hardware, hardware_of}, Stage.{Stage}, History.{Step, history, opening_stage}}
-use Rattle.ring_spec.specs.{Sending.{SentSample, sent_by_steps}, Records.{Record, record_words, record_size, words_of}}
+use Rattle.ring_spec.specs.{Sending.{SentSample, sent_by_steps}}
 use Rattle.ring_spec.specs.Account.{RingEvent, Sends, is_sent, lost_of}
-use Rattle.ring_spec.{specs.Rings.{is_to, events_of, account_of, lost_count, account_in}, proofs.{Conserved.{sent_law}, Rings.{sends_law}}}
+use Rattle.ring_spec.{specs.Rings.{is_to, events_of, account_of, lost_count, account_in}, proofs.{Conserved.{sent_law}, Rings.{sends_law}, Sizes.{size-words}}}
 use Rattle.ring_laws.{specs.Losses.{FewLostLaw, FewLostOfScriptLaw, HeadsLaw, SmallHeadsLaw}, proofs.Orders.{few_of_script, few_words}}
 use Rattle.ring_laws.proofs.Reached.{count-one}
 
@@ -88,13 +88,8 @@ few_lost_of_script s order e h covered =
       few_of_script s order h covered,
     )
 
--- the head in words
-head_words : (records : List Record) → sum_by record_size records ≡ 8 * length (words_of records)
-head_words [] = refl
-head_words (r ∷ records) = omega (arith, head_words records, sum_by-cons record_size r records, length-append (record_words r) (words_of records))
-
 pub heads : HeadsLaw
-heads s order ring h covered = omega (arith, head_words (account_in s order ring).written, few_words s order ring h covered)
+heads s order ring h covered = omega (arith, size-words (account_in s order ring).written, few_words s order ring h covered)
 
 pub small_heads : SmallHeadsLaw
 small_heads s order ring h covered light = omega (arith, light, heads s order ring h covered)

@@ -13,7 +13,7 @@ use Rattle.stage_spec.specs.{Verdict.{on_instances}, Opening.{is_used}, History.
 use Rattle.stage_spec.specs.{Families.{plus_each, leaving}, Remainders.{left_by, left_by_hits, left_by_period, new_period, instance_of}}
 use Rattle.stage_spec.specs.Reading.{read_words, read_words_of, words_in, words_by, words_of_group, words_of_member, words_unless_error, has_format, is_error}
 use Rattle.stage_spec.specs.{Effective.{state_in}, Replies.{IsAnswerAt, IsToolReply, UnlessRefused}}
-use Rattle.stage_spec.proofs.{Each.{Each, head-Each, weaker-Each, filter-Each, InGroup, InStage}, Carried.{IsOfName, step-in}}
+use Rattle.stage_spec.proofs.{Each.{Each, flat_map-same, head-Each, weaker-Each, filter-Each, InGroup, InStage}, Carried.{IsOfName, step-in}}
 use Rattle.stage_spec.proofs.{Inside.{all_instances-in, InStage-from_all}, Parts.{joined-Each}}
 use Rattle.stage_spec.proofs.{Present.{on_instances-in, leaving-in, Found, any-found, find-holds, find-any, each_at, each_there}, Drawn.{step-draws}}
 use Rattle.ring_spec.specs.Sending.{SentSample, sent_by_step, sent_by_line, sent_at, length_by}
@@ -23,11 +23,6 @@ use Rattle.ring_spec.specs.Agreement.{lives, IsCurrentId, IsCurrentSlot, RingVie
 use Rattle.ring_spec.proofs.Running.{lost-more}
 
 -- functions that give the same of each element
-flat_map-same : {X Y : Type 0} (f g : X → List Y) (xs : List X) → Each (λ x. f x ≡ g x) xs → flat_map f xs ≡ flat_map g xs
-unfolding Each
-flat_map-same f g [] h = refl
-flat_map-same f g (x ∷ xs) h = rw (h.0, flat_map-same f g xs h.1) refl
-
 plus_each-same : (f g : Instance → Sums) (xs : List Instance) → Each (λ i. f i ≡ g i) xs → plus_each f xs ≡ plus_each g xs
 unfolding Each
 plus_each-same f g [] h = refl

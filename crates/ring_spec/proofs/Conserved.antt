@@ -4,10 +4,10 @@ use Rattle.std.proofs.{Common.{arith, refl, zero, suc}, lemmas.List.{length_push
 use Rattle.ring_spec.specs.Sending.{SentSample}
 use Rattle.ring_spec.specs.Account.{RingEvent, Sends, Looks, Account, account, empty_account, ring_step, told_before, sample_of, is_sent, is_sample, losses_in, SentLaw, ToldLaw}
 
-samples : Account → ℕ
+abbrev samples : Account → ℕ
 samples a = count_by is_sample a.written
 
-told : Account → ℕ
+abbrev told : Account → ℕ
 told a = sum_by losses_in a.written
 
 -- what a record that is written brings
@@ -21,12 +21,10 @@ told_losses (suc n) sent = omega arith
 
 -- one step keeps both
 sent_step : (bytes : ℕ) (a : Account) (e : RingEvent) → samples (ring_step bytes a e) + length (ring_step bytes a e).lost ≡ (samples a + length a.lost) + cond (is_sent e) 1 0
-unfolding samples
 sent_step bytes a (Looks place) = omega arith
 sent_step bytes a (Sends sent) = grind (arith, sum_by-append, told_samples, length_push)
 
 told_step : (bytes : ℕ) (a : Account) (e : RingEvent) → length a.lost ≡ told a + a.pending → length (ring_step bytes a e).lost ≡ told (ring_step bytes a e) + (ring_step bytes a e).pending
-unfolding told
 told_step bytes a (Looks place) h = h
 told_step bytes a (Sends sent) h = grind (arith, sum_by-append, told_losses, length_push)
 
@@ -41,9 +39,9 @@ told_over bytes a [] h = h
 told_over bytes a (e ∷ events) h = told_over bytes (ring_step bytes a e) events (told_step bytes a e h)
 
 pub sent_law : SentLaw
-unfolding account samples
+unfolding account
 sent_law bytes events = omega (arith, sent_over bytes empty_account events)
 
 pub told_law : ToldLaw
-unfolding account told
+unfolding account
 told_law bytes events = told_over bytes empty_account events refl

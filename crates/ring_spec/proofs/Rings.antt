@@ -1,6 +1,7 @@
 -- What one more step does to a ring, and that all rings together get what the steps send.
 use Rattle.std.specs.Prelude.{◌≡◌, ◌==◌, Bool, true, false, List, [], ◌∷◌, ◌++◌, map, filter, fold, cond, if◌then◌else◌}
 use Rattle.std.proofs.{Common.{refl, sym, ap, ◌∙◌, append_assoc, append-nil}, lemmas.List.Sums.{fold-append}}
+use Rattle.perf_base.proofs.FlatMaps.{flat_map_after-push}
 use Rattle.perf_base.specs.declared.numbers.RingNo.{RingNo}
 use Rattle.stage_spec.specs.{Hardware.{Hardware}, Stage.{Stage}, History.{Step, CpuStep, ToolStep, SeenStep}}
 use Rattle.ring_spec.specs.Sending.{SentSample, sent_after, sent_from}
@@ -10,13 +11,7 @@ use Rattle.ring_spec.specs.Rings.{is_to, sends_to, looks_at, events_by, events_a
 events_from-push : (hw : Hardware) (s : Stage) (ring : RingNo) (before steps : List Step) (x : Step)
     → events_from hw s ring before (steps ++ x ∷ []) ≡ events_from hw s ring before steps ++ events_after hw s ring (before ++ steps) x
 unfolding events_from
-events_from-push hw s ring before [] x = append-nil (events_after hw s ring before x) ∙ ap (λ done. events_after hw s ring done x) (sym (append-nil before))
-events_from-push hw s ring before (y ∷ steps) x =
-    let regrouped : (before ++ y ∷ []) ++ steps ≡ before ++ y ∷ steps = append_assoc before (y ∷ []) steps in
-    let now : List RingEvent = events_after hw s ring before y in
-    let rest : List RingEvent = events_from hw s ring (before ++ y ∷ []) steps in
-    ap (λ es. now ++ es) (events_from-push hw s ring (before ++ y ∷ []) steps x)
-    ∙ (ap (λ done. now ++ (rest ++ events_after hw s ring done x)) regrouped ∙ sym (append_assoc now rest (events_after hw s ring (before ++ y ∷ steps) x)))
+events_from-push hw s ring before steps x = flat_map_after-push (events_after hw s ring) before steps x
 
 -- the events of a ring over one step more
 pub events_of-push : (hw : Hardware) (s : Stage) (steps : List Step) (x : Step) (ring : RingNo)

@@ -62,9 +62,6 @@ kept-first hw s rings = grind (arith, fun_ext, none_lost)
 clock_of-push : (before : List Step) (x : Step) (cpu : CpuNo) → clock_of (before ++ x ∷ []) cpu ≡ clock_of before cpu + length_by cpu x
 clock_of-push before x cpu = omega (arith, sum_by-append (length_by cpu) before (x ∷ []))
 
-map_same : {X Y : Type 0} (f g : X → Y) → ((x : X) → f x ≡ g x) → (xs : List X) → map f xs ≡ map g xs
-map_same f g h xs = ap (λ k. map k xs) (fun_ext h)
-
 ring-grows : (hw : Hardware) (s : Stage) (before : List Step) (x : Step) (ring : RingNo × ℕ)
     → fold (ring_step ring.1) (account_of hw s before ring) (events_by x (sent_by_step hw (stage_after hw s before) (remainder_of hw s before) (clock_of before) x) ring.0)
     ≡ account_of hw s (before ++ x ∷ []) ring
@@ -85,9 +82,7 @@ kept-step hw s rings before r x h =
       clock = fun_ext (λ cpu. rw h.clock (sym (clock_of-push before x cpu)));
       rings = rw (h.stage, h.left, h.clock, h.rings)
           (map-map (λ ring. record { ring = ring.0; bytes = ring.1; account = account_of hw s before ring }) (ring_after x sents) rings
-          ∙ map_same (λ ring. ring_after x sents (record { ring = ring.0; bytes = ring.1; account = account_of hw s before ring }))
-          (λ ring. record { ring = ring.0; bytes = ring.1; account = account_of hw s (before ++ x ∷ []) ring })
-          (λ ring. ap (λ a. record { ring = ring.0; bytes = ring.1; account = a }) (ring-grows hw s before x ring)) rings);
+          ∙ ap (λ (f : RingNo × ℕ → RingAccount). map f rings) (fun_ext (λ ring. ap (λ a. record { ring = ring.0; bytes = ring.1; account = a }) (ring-grows hw s before x ring))));
     }
 
 kept-over : (hw : Hardware) (s : Stage) (rings : List (RingNo × ℕ)) (before : List Step) (r : Running) → IsKept hw s rings before r

@@ -1,12 +1,12 @@
 -- Records have lawful sizes, so a ring gets few words, and a whole prefix of them ends at a record.
-use Rattle.std.specs.Prelude.{◌≡◌, ℕ, zero, suc, ◌+◌, ◌-◌, ◌*◌, ◌≤◌, ◌==◌, nat_le, bit_and, Bool, true, false, All, List, [], ◌∷◌, ◌++◌, length, map, take, filter, fold, flat_map, replicate, min, sum, Option, Some, None, cond, if◌then◌else◌}
+use Rattle.std.specs.Prelude.{◌≡◌, ℕ, zero, suc, ◌+◌, ◌-◌, ◌*◌, ◌≤◌, ◌==◌, nat_le, bit_and, Bool, true, false, All, List, [], ◌∷◌, ◌++◌, length, map, take, filter, fold, flat_map, min, sum, sum_by, Option, Some, None, cond, if◌then◌else◌}
 use Rattle.std.{specs.List.{concat}, proofs.{Common.{arith, refl, sym, ap, ◌∙◌, get_or}, Math.Seq.{take-append-add}}}
 use Rattle.std.proofs.lemmas.List.{length-append, length-take, get_or-take, Concat.{flat_map-append}}
-use Rattle.std.proofs.lemmas.List.{Elements.{All-append, All-cons, All-nil, All-tail}, Sums.{length-filter, count_by-le-length}}
+use Rattle.std.proofs.lemmas.List.{Elements.{All-append, All-cons, All-nil, All-tail}, Sums.{length-filter, count_by-le-length, sum_by-cons}}
 use Rattle.perf_base.specs.declared.{numbers.{CpuNo.{CpuNo}, RingNo.{RingNo}}, lines.{CpuLine.{CpuLine}, Work.{Work}}}
 use Rattle.perf_base.specs.declared.lines.CpuLine.TheVariants as cpu_line
 use Rattle.stage_spec.specs.{declared.instance.Instance.{Instance}, Hardware.{Hardware}, Stage.{Stage, original_of}, Verdict.{on_instances}}
-use Rattle.stage_spec.{specs.{History.{Step, CpuStep, ToolStep, SeenStep, stage_after}, Remainders.{remainder_of}}, proofs.Each.{Each, append-Each}}
+use Rattle.stage_spec.{specs.{History.{Step, CpuStep, ToolStep, SeenStep, stage_after}, Remainders.{remainder_of}}, proofs.Each.{Each, append-Each, replicate-Each}}
 use Rattle.ring_spec.specs.{declared.fields.Fields.{Fields}, Whole.{IsBlock, size_field}}
 use Rattle.ring_spec.specs.Records.{Record, Sample, Lost, field, body_of, trailer_of, record_words, words_of, record_size, IsRecord, EndsAtRecord, PrefixLaw}
 use Rattle.ring_spec.specs.Sending.{SentSample, fields_of, has_trailer, trailer_if, sent_of, to_ring, sent_by_family, overflows_by, sent_by_line, sent_by_step, sent_after, sent_by_steps, clock_of}
@@ -32,7 +32,7 @@ trailer-short : (sample : ℕ) (f : Fields) → length (trailer_of sample f) ≤
 trailer-short sample f = grind (arith, and_field)
 
 -- the records that a step sends
-abbrev IsSized : SentSample → Type 0
+abbrev pub IsSized : SentSample → Type 0
 IsSized sent = (length sent.body ≤ 8) × (length sent.trailer ≤ 6)
 
 pub trailer_if-short : (b : Bool) (sample : ℕ) (f : Fields) → length (trailer_if b sample f) ≤ 6
@@ -42,25 +42,20 @@ trailer_if-short false sample f = omega arith
 sized : (original : Instance) (w : Work) (i : Instance) (f : Fields) → IsSized (sent_of original w i f)
 sized original w i f = (body-short i.attr.sample f, trailer_if-short (has_trailer original.attr) original.attr.sample (record f { stream_id = original.id }))
 
-abbrev AreSized : List (RingNo × SentSample) → Type 0
+abbrev pub AreSized : List (RingNo × SentSample) → Type 0
 AreSized sents = Each (λ (sent : RingNo × SentSample). IsSized sent.1) sents
-
-repeated : (n : ℕ) (sent : RingNo × SentSample) → IsSized sent.1 → AreSized (replicate n sent)
-unfolding Each
-repeated zero sent h = tt
-repeated (suc n) sent h = (h, repeated n sent h)
 
 to_ring-sized : (ring : Option RingNo) (n : ℕ) (sent : SentSample) → IsSized sent → AreSized (to_ring ring n sent)
 unfolding Each
 to_ring-sized None n sent h = tt
-to_ring-sized (Some ring) n sent h = repeated n (ring, sent) h
+to_ring-sized (Some ring) n sent h = replicate-Each (λ (sent : RingNo × SentSample). IsSized sent.1) n (ring, sent) h
 
 family-sized : (original : Option Instance) (s : Stage) (cpu : CpuNo) (w : Work) (clock count : ℕ) (i : Instance) → AreSized (sent_by_family original s cpu w clock count i)
 unfolding Each
 family-sized None s cpu w clock count i = tt
 family-sized (Some original) s cpu w clock count i = to_ring-sized original.ring count (sent_of original w i (fields_of s cpu w clock original.id i)) (sized original w i (fields_of s cpu w clock original.id i))
 
-work-sized : (s : Stage) (left : ℕ → ℕ) (clock : ℕ) (cpu : CpuNo) (w : Work) (instances : List Instance)
+pub work-sized : (s : Stage) (left : ℕ → ℕ) (clock : ℕ) (cpu : CpuNo) (w : Work) (instances : List Instance)
     → AreSized (flat_map (λ i. sent_by_family (original_of s i.event) s cpu w clock (overflows_by w (left i.id) i) i) instances)
 unfolding Each
 work-sized s left clock cpu w [] = tt
@@ -214,6 +209,11 @@ sizes-are [] (suc k) = refl
 sizes-are (r ∷ records) zero = refl
 sizes-are (r ∷ records) (suc k) =
     omega (arith, sizes-are records k, length-append (record_words r) (words_of (take k records)), sum_from (0 + record_size r) (take k (map record_size records)))
+
+-- the size of records is that of their words
+pub size-words : (records : List Record) → sum_by record_size records ≡ 8 * length (words_of records)
+size-words [] = refl
+size-words (r ∷ records) = omega (arith, size-words records, sum_by-cons record_size r records, length-append (record_words r) (words_of records))
 
 pub prefix_law : PrefixLaw
 prefix_law records n h whole =

@@ -2,6 +2,7 @@
 -- The rings of a script over an order: what was sent to each and seen of it, which orders are lawful, and how many
 -- records of a family were lost. This project's own profile, after lost_samples of struct perf_event.
 use Rattle.std.specs.Prelude.{◌≡◌, ℕ, ◌*◌, ◌≤◌, ◌==◌, Bool, All, List, [], ◌∷◌, ◌++◌, length, map, take, filter, fold, find, sum_by, Option, Some, None, if◌then◌else◌}
+use Rattle.perf_base.specs.FlatMaps.{flat_map_after}
 use Rattle.perf_base.specs.{declared.{numbers.{EventNo.{EventNo}, RingNo.{RingNo}}, acts.Act.{Act}}, Scripts.{Scripted}}
 use Rattle.stage_spec.specs.{Hardware.{Hardware, hardware_of}, Stage.{Stage}, Order.{IsLawful, IsLawfulAct, IsLawfulSeen}}
 use Rattle.stage_spec.specs.History.{Step, CpuStep, ToolStep, SeenStep, history, opening_stage}
@@ -31,8 +32,7 @@ events_after hw s ring before x = events_by x (sent_after hw s before x) ring
 
 -- what some steps do to a ring, the first of them after some others
 unfoldable pub events_from : Hardware → Stage → RingNo → (before steps : List Step) → List RingEvent
-events_from hw s ring before [] = []
-events_from hw s ring before (x ∷ steps) = events_after hw s ring before x ++ events_from hw s ring (before ++ x ∷ []) steps
+events_from hw s ring before steps = flat_map_after (events_after hw s ring) before steps
 
 unfoldable pub events_of : Hardware → Stage → List Step → RingNo → List RingEvent
 events_of hw s steps ring = events_from hw s ring [] steps

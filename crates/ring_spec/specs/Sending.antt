@@ -5,6 +5,7 @@
 -- of one stretch of work, and that a copy's sample has its own STREAM_ID behind a LOST record, too, are this project's
 -- own profile.
 use Rattle.std.specs.Prelude.{ℕ, ◌+◌, ◌==◌, Bool, true, false, List, [], ◌∷◌, ◌++◌, replicate, flat_map, sum_by, Option, Some, None, if◌then◌else◌}
+use Rattle.perf_base.specs.FlatMaps.{flat_map_after}
 use Rattle.perf_base.specs.declared.{numbers.{CpuNo.{CpuNo}, EventNo.{EventNo}, RingNo.{RingNo}, TaskNo.{TaskNo}}, attr.Attr.{Attr}}
 use Rattle.perf_base.specs.declared.lines.{Mode.{Mode}, Work.{Work}, CpuLine.{CpuLine}}
 use Rattle.perf_base.specs.declared.lines.CpuLine.TheVariants as cpu_line
@@ -105,8 +106,7 @@ sent_after hw s before x = sent_by_step hw (stage_after hw s before) (remainder_
 
 -- the records that steps send, the first of them after some others
 unfoldable pub sent_from : Hardware → Stage → (before steps : List Step) → List (RingNo × SentSample)
-sent_from hw s before [] = []
-sent_from hw s before (x ∷ steps) = sent_after hw s before x ++ sent_from hw s (before ++ x ∷ []) steps
+sent_from hw s before steps = flat_map_after (sent_after hw s) before steps
 
 -- the records that steps send, the first of which is at a stage
 abbrev pub sent_by_steps : Hardware → Stage → List Step → List (RingNo × SentSample)

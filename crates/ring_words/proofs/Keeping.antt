@@ -4,7 +4,7 @@ use mathlib.Core.{Option.{some}, List.{IsPrefix}}
 use lib.ListN.{get_elem?}
 use Rattle.atomic_table.{specs.Table.{State}, proofs.Lists.{at_set}}
 use Rattle.ring_words.specs.{declared.view.View.{View}, Views.{IsProducer, IsConsumer}, Rule.{Tied, NoteHolds, Kept}}
-use Rattle.ring_words.proofs.{Alone.{it_alone, it_stays, others_stay}, Prefixes.{prefix_through}}
+use Rattle.perf_base.proofs.{Alone.{it_alone, it_stays, others_stay}, Prefixes.{prefix_through}}
 
 abbrev Table : Type 0
 Table = State (Unit {0}) View

@@ -1,4 +1,3 @@
-pub mod Alone
 pub mod Prefixes
 pub mod Keeping
 pub mod Sizes

@@ -6,10 +6,10 @@ use lib.ListN.{get_elem?}
 use Rattle.atomic_table.{specs.Table.{State, Splits, Joins, Final, Seen, opening}, proofs.Lists.{at_set, at_snoc, set_again, set_else}}
 use Rattle.ring_words.specs.{declared.view.View.{View}, Ends.{cells_of, cell_of}}
 use Rattle.ring_words.specs.Views.{both_ends, spent, producer_of, consumer_of, note_of_producer, note_of_consumer, informed, rejoined, IsProducer, IsConsumer, IsNote}
-use Rattle.ring_words.{specs.Rule.{Tied, NoteHolds, Kept}, proofs.Alone.{it_stays, it_goes, it_comes, others_stay}}
-use Rattle.ring_words.proofs.{Prefixes.{prefix_self, whole_nothing}, Sizes.{least_bytes}}
+use Rattle.ring_words.specs.Rule.{Tied, NoteHolds, Kept}
+use Rattle.ring_words.proofs.{Prefixes.{whole_nothing}, Sizes.{least_bytes}}
 use Rattle.ring_words.proofs.Keeping.{after, is_producer, is_consumer, tied_producer, tied_consumer, producer_keeps, consumer_keeps}
-use Rattle.perf_base.specs.Scripts.{IsRingSize}
+use Rattle.perf_base.{specs.Scripts.{IsRingSize}, proofs.{Alone.{it_stays, it_goes, it_comes, others_stay}, Prefixes.{prefix_self}}}
 
 abbrev Table : Type 0
 Table = State (Unit {0}) View

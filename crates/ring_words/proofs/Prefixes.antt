@@ -6,18 +6,6 @@ use mathlib.Core.List.{IsPrefix}
 use Rattle.ring_spec.specs.Whole.{size_field, IsBlock, IsWhole}
 use Rattle.ring_words.specs.Ends.{IsStop, LeadsTo}
 
-pub prefix_more : (xs ys zs : List ℕ) → IsPrefix xs ys → IsPrefix xs (ys ++ zs)
-prefix_more xs ys zs p = (p.0 ++ zs, sym (append_assoc xs p.0 zs) ∙ ap (λ (l : List ℕ). l ++ zs) p.1)
-
-pub prefix_through : (xs ys zs : List ℕ) → IsPrefix xs ys → IsPrefix ys zs → IsPrefix xs zs
-prefix_through xs ys zs p q = let P : List ℕ → Type 0 = λ l. IsPrefix xs l in subst P q.1 (prefix_more xs ys q.0 p)
-
-pub prefix_self : (xs : List ℕ) → IsPrefix xs xs
-prefix_self xs = ([], append-nil xs)
-
-pub length-prefix : (xs ys : List ℕ) → IsPrefix xs ys → length xs ≤ length ys
-length-prefix xs ys p = omega (arith, length-append xs p.0, ap length p.1)
-
 pub take-prefix : (xs ys : List ℕ) → IsPrefix xs ys → take (length xs) ys ≡ xs
 take-prefix xs ys p = ap (take (length xs)) (sym p.1) ∙ take-append_seam xs p.0
 

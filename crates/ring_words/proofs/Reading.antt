@@ -5,7 +5,8 @@ use mathlib.Core.List.{IsPrefix}
 use Rattle.atomic_table.specs.Table.{keeps, Allows}
 use Rattle.ring_words.specs.{declared.view.View.{View}, Ends.{cell_of, LeadsTo}, Views.{IsConsumer, Holder, saw_head, with_taken, all_released}}
 use Rattle.ring_words.specs.{Rule.{Tied, NoteHolds, Kept}, Steps.{LoadsHead, LoadsWord, StoresTail, ChecksTail}}
-use Rattle.ring_words.proofs.{Prefixes.{prefix_next, take-prefix, length-prefix, leads_by}, Keeping.{tied_consumer, consumer_note, consumer_keeps}}
+use Rattle.perf_base.proofs.Prefixes.{length-prefix}
+use Rattle.ring_words.proofs.{Prefixes.{prefix_next, take-prefix, leads_by}, Keeping.{tied_consumer, consumer_note, consumer_keeps}}
 use Rattle.ring_spec.specs.Whole.{IsWhole}
 
 module _ (bytes : ℕ) (words : List ℕ) (p v : View) (t : Tied bytes words p v) where

@@ -5,9 +5,10 @@ use Rattle.atomic_table.{specs.Table.{keeps, Allows}, proofs.Lists.{one_turn}}
 use Rattle.ring_words.specs.{declared.view.View.{View}, Ends.{cells_of, cell_of, IsStop}}
 use Rattle.ring_words.specs.{Views.{IsProducer, Holder, saw_tail, with_put, all_published}, Rule.{Tied, NoteHolds, Kept}}
 use Rattle.ring_words.specs.Steps.{LoadsTail, StoresWord, StoresHead}
-use Rattle.ring_words.proofs.{Prefixes.{prefix_more, prefix_self, length-prefix, whole_both, whole_more}, Sizes.{least_bytes, bytes_of_cells}}
+use Rattle.ring_words.proofs.{Prefixes.{whole_both, whole_more}, Sizes.{least_bytes, bytes_of_cells}}
 use Rattle.ring_words.proofs.Keeping.{tied_producer, producer_note, producer_keeps}
 use Rattle.ring_spec.specs.Whole.{IsWhole}
+use Rattle.perf_base.proofs.Prefixes.{prefix_more, prefix_self, length-prefix}
 
 module _ (bytes : ℕ) (words : List ℕ) (v c : View) (t : Tied bytes words v c) where
   released_within : c.released ≤ length v.published

@@ -5,8 +5,9 @@ use Rattle.std.{proofs.Math.Seq.{take-append_seam}, specs.List.{concat}}
 use mathlib.Core.List.{IsPrefix}
 use Rattle.ring_spec.specs.{Whole.{size_field, IsBlock, IsWhole}, Records.{Record, IsRecord, record_words, words_of, EndsAtRecord, record_size}}
 use Rattle.ring_spec.{specs.Account.{Account}, proofs.{Cutting.{back, block-of, whole_law}, Sizes.{prefix_law}}}
+use Rattle.ring_spec.proofs.Sizes.{size-words}
 use Rattle.ring_words.{proofs.Prefixes.{stop_more}, specs.Ends.{IsStop}}
-use Rattle.sample_ring.{proofs.{Marks.{stop_at_end}, Sending.{size-words}}, specs.OutEnds.{OutEnd, HasAccount, EndsRecord}}
+use Rattle.sample_ring.{proofs.Marks.{stop_at_end}, specs.OutEnds.{OutEnd, HasAccount, EndsRecord}}
 use Rattle.sample_ring.specs.InEnds.{InEnd, kept_words, IsSoundIn}
 
 record SameBlock (a b us vs : List ℕ) : Type 0 where

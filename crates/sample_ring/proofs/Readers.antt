@@ -3,7 +3,8 @@ use Rattle.std.proofs.Common.{◌≡◌, ℕ, ◌+◌, ◌*◌, ◌/◌, ◌<◌
 use Rattle.std.proofs.{Math.{Decide.{dec_le}, Logic.{dite}}, lemmas.List.{take-append-drop, take_all}}
 use mathlib.Core.List.{IsPrefix}
 use Rattle.ring_spec.specs.Whole.{size_field, IsWhole}
-use Rattle.ring_words.{specs.Ends.{IsStop}, proofs.Prefixes.{prefix_through, take-prefix}}
+use Rattle.ring_words.{specs.Ends.{IsStop}, proofs.Prefixes.{take-prefix}}
+use Rattle.perf_base.proofs.Prefixes.{prefix_through}
 use Rattle.sample_ring.specs.{OutEnds.{OutEnd, IsSoundOut}, InEnds.{InEnd, AreRecords, kept_words, IsDry, IsSoundIn, Reads, Passes}}
 use Rattle.sample_ring.{specs.Taking.{TakesOne, with_tail}, proofs.Takes.{taken_words, whole_words}}
 use Rattle.sample_ring.proofs.Blocks.{records_more, within_whole, begins_within}

@@ -1,9 +1,9 @@
 -- What a send leaves: words of records behind those published, and one more send in the account.
-use Rattle.std.proofs.Common.{◌≡◌, ℕ, zero, suc, ◌+◌, ◌*◌, ◌<◌, ◌≤◌, Bool, true, false, List, [], ◌∷◌, ◌++◌, All, length, take, drop, sum_by, refl, sym, ap, ◌∙◌, subst, append-nil, length-append, arith}
+use Rattle.std.proofs.Common.{◌≡◌, ℕ, zero, suc, ◌+◌, ◌<◌, ◌≤◌, Bool, true, false, List, [], ◌∷◌, ◌++◌, All, length, take, drop, sum_by, refl, sym, ap, ◌∙◌, subst, append-nil, length-append, arith}
 use Rattle.std.proofs.lemmas.List.{Concat.{flat_map-cons, flat_map-append}, Elements.{All-append, All-cons, All-nil}}
 use Rattle.std.proofs.{lemmas.{List.Sums.{sum_by-cons, sum_by-append}, Bool.{le-leb, leb-false, leb-true, lt-leb}}, Math.Seq.{take-append_seam}}
 use Rattle.ring_spec.specs.{Whole.{IsWhole}, Records.{Record, Lost, IsRecord, record_words, record_size, words_of}, Sending.{SentSample}}
-use Rattle.ring_spec.{specs.Account.{Account, sample_of, told_before, send}, proofs.Cutting.{whole_law}}
+use Rattle.ring_spec.{specs.Account.{Account, sample_of, told_before, send}, proofs.{Cutting.{whole_law}, Sizes.{size-words}}}
 use Rattle.ring_spec.specs.Account as account
 use Rattle.ring_words.specs.Ends.{ProducerEnd, head_place, room_of, IsSoundProducer}
 use Rattle.sample_ring.{proofs.Marks.{marks_later}, specs.{declared.sent.RingNumbers.{RingNumbers}, OutEnds.{OutEnd, HasAccount, AreOfRecords}}}
@@ -24,11 +24,6 @@ lawful-both n told sent a b = All-append IsRecord (told_where n told) (sent ∷ 
 
 pub whole-both : (n : ℕ) (told sent : Record) → IsRecord told → IsRecord sent → IsWhole (words_of (told_where n told) ++ record_words sent)
 whole-both n told sent a b = subst IsWhole (sym (words-both n told sent)) (whole_law (told_where n told ++ sent ∷ []) (lawful-both n told sent a b))
-
--- the size of records is that of their words
-pub size-words : (records : List Record) → sum_by record_size records ≡ 8 * length (words_of records)
-size-words [] = refl
-size-words (r ∷ rs) = omega (arith, size-words rs, sum_by-cons record_size r rs, ap length (flat_map-cons record_words r rs), length-append (record_words r) (words_of rs))
 
 -- words written over the beginning of a list of their length
 pub written_over : (xs ys : List ℕ) (n : ℕ) → n ≡ length xs → length ys ≡ length xs → take n (ys ++ drop (length ys) xs) ≡ ys

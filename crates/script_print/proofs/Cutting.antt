@@ -1,15 +1,11 @@
 -- A printed text is cut into its lines, and a printed line into its words.
 use Rattle.std.proofs.Common.{◌≡◌, ℕ, Bool, true, false, not, eqb, List, [], ◌∷◌, ◌++◌, refl, ap, ◌∙◌, append_assoc}
-use Rattle.std.{proofs.lemmas.Bool.{eq-eqb, and_parts}, specs.{Prelude.{flat_map}, List.{list_all, join_with_byte}}}
+use Rattle.std.{proofs.lemmas.Bool.{eq-eqb, and_parts, not-true}, specs.{Prelude.{flat_map}, List.{list_all, join_with_byte}}}
 use Rattle.script_spec.specs.Lines.{pieces, all_but_last, last_one, lines_of, rest_of}
 
 -- the byte does not stand in the text
 abbrev pub lacks : ℕ → List ℕ → Bool
 lacks c text = list_all (λ b. not (eqb b c)) text
-
-not_true : (x : Bool) → not x ≡ true → x ≡ false
-not_true true e = absurd cc
-not_true false e = refl
 
 append_one : (x y : List ℕ) → (x ++ 10 ∷ []) ++ y ≡ x ++ 10 ∷ y
 append_one x y = append_assoc x (10 ∷ []) y
@@ -17,7 +13,7 @@ append_one x y = append_assoc x (10 ∷ []) y
 lacks_parts : (c b : ℕ) (bs : List ℕ) → lacks c (b ∷ bs) ≡ true → (eqb b c ≡ false) × (lacks c bs ≡ true)
 lacks_parts c b bs h =
     let p = and_parts (not (eqb b c)) (lacks c bs) h in
-    (not_true (eqb b c) p.0, p.1)
+    (not-true (eqb b c) p.0, p.1)
 
 pub pieces_at : (c : ℕ) (x y : List ℕ) → lacks c x ≡ true → pieces c (x ++ c ∷ y) ≡ x ∷ pieces c y
 unfolding pieces

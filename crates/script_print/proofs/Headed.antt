@@ -6,9 +6,9 @@ use Rattle.perf_base.specs.declared.lines.{CpuLine.{CpuLine}, ToolLine.{ToolLine
 use Rattle.perf_base.specs.Scripts.{Scripted, IsScript, IsCovered, IsCpuLine, IsToolLine, line_count, IsStoredWork, IsStoredToolLine}
 use Rattle.script_spec.specs.{Forms.{Version, Form}, Meaning.{last_of, processors_in, tools_in, script_of, cpu_line_of, tool_line_of}}
 use Rattle.script_spec.specs.Printing.{cpu_form, processor_forms, tool_form, tool_forms, all_processor_forms, all_tool_forms}
-use Rattle.script_spec.{specs.Saying.{on_cpu, on_tool}, proofs.Snoc.{from}}
+use Rattle.script_spec.{specs.Saying.{on_cpu, on_tool}, proofs.Snoc.{from, last_push}}
 use Rattle.script_spec.specs.Forms as form
-use Rattle.script_print.proofs.Lists.{all_in, fewer, last_is, partly, partly_none, partly_all, partly_next, partly_more, partly_fewer}
+use Rattle.script_print.proofs.Lists.{all_in, fewer, partly, partly_none, partly_all, partly_next, partly_more, partly_fewer}
 use Rattle.script_print.proofs.{Run.{Run, push, entry, higher, says, behind_pmus, section_run}, Sections.{with_rings}}
 use Rattle.script_print.proofs.LineForms.{cpu_form_of, tool_form_of}
 
@@ -84,7 +84,7 @@ module _ {v : Version} (s : Scripted) (h : IsScript s) (covered : IsCovered s) w
       → Run v (before ++ form.Processor n ∷ []) (with_cpus s (partly n [] s.cpu_lines)) (qs ++ n ∷ []) [] 6
   cpu_header before n qs l some rise b =
       let low : n < 8 = omega (arith, l, h.processors) in
-      push (form.Processor n) (omega arith, omega arith) b (record { later = tt; in_section = refl; script = refl; processors = refl; tools = refl; low = (rw (last_is qs n) low, tt) }) (behind_pmus b covered tt)
+      push (form.Processor n) (omega arith, omega arith) b (record { later = tt; in_section = refl; script = refl; processors = refl; tools = refl; low = (rw (last_push qs n) low, tt) }) (behind_pmus b covered tt)
       (record { form = (tt, omega (arith, low)); range = (rw (says b).cpus (busy_machine s h n l some), rw b.processors rise); others = (tt, tt, tt, tt) })
 
   cpu_step : (n : ℕ) (qs : List ℕ) → n < length s.cpu_lines → (before : List Form) (done : List CpuLine) (x : CpuLine) (rest : List CpuLine) → done ++ x ∷ rest ≡ get_or s.cpu_lines n []
@@ -94,10 +94,10 @@ module _ {v : Version} (s : Scripted) (h : IsScript s) (covered : IsCovered s) w
       let own = all_in (IsCpuLine (length s.kinds)) done x rest (get_or s.cpu_lines n []) e (h.cpu_lines n [] l) in
       let stored = all_in IsStoredWork done x rest (get_or s.cpu_lines n []) e (h.stored.cpu_lines n [] l) in
       let f = cpu_form_of s.kinds s.pmus h.kinds h.kinds_once h.kinds_few x own stored in
-      let under : IsSome (last_of (processors_in before)) = rw b.processors (rw (last_is qs n) refl) in
+      let under : IsSome (last_of (processors_in before)) = rw b.processors (rw (last_push qs n) refl) in
       let less = partly_fewer n done s.cpu_lines l (fewer done x rest (get_or s.cpu_lines n []) e) in
       let count : line_count (script_of before) ≡ line_count t = ap line_count b.script in
-      let next_is : on_cpu t (last_of (qs ++ n ∷ [])) (cpu_line_of s.kinds f.0) ≡ with_cpus s (partly n (done ++ x ∷ []) s.cpu_lines) = rw (last_is qs n, f.1.says) (ap (with_cpus s) (partly_more n done x s.cpu_lines l)) in
+      let next_is : on_cpu t (last_of (qs ++ n ∷ [])) (cpu_line_of s.kinds f.0) ≡ with_cpus s (partly n (done ++ x ∷ []) s.cpu_lines) = rw (last_push qs n, f.1.says) (ap (with_cpus s) (partly_more n done x s.cpu_lines l)) in
       subst (λ g. Run v (before ++ g ∷ []) (with_cpus s (partly n (done ++ x ∷ []) s.cpu_lines)) (qs ++ n ∷ []) [] 6) (sym f.1.is)
       (push (form.OnProcessor f.0) (omega arith, omega arith) b (entry tt refl refl refl b.low next_is) (behind_pmus b covered under) (record {
         form = (tt, f.1.spelling);
@@ -118,7 +118,7 @@ module _ {v : Version} (s : Scripted) (h : IsScript s) (covered : IsCovered s) {
       → Run v (before ++ form.Tool n ∷ []) (with_tools s (partly n [] s.tool_lines)) ps (qs ++ n ∷ []) 7
   tool_header before n qs l some rise b =
       let low : n < 4 = omega (arith, l, h.tools) in
-      push (form.Tool n) (omega arith, omega arith) b (record { later = tt; in_section = refl; script = refl; processors = append-nil ps; tools = refl; low = (b.low.0, rw (last_is qs n) low) }) (behind_pmus b covered tt)
+      push (form.Tool n) (omega arith, omega arith) b (record { later = tt; in_section = refl; script = refl; processors = append-nil ps; tools = refl; low = (b.low.0, rw (last_push qs n) low) }) (behind_pmus b covered tt)
       (record { form = (tt, omega (arith, low)); range = (low, rw b.tools rise); others = (tt, tt, tt, tt) })
 
   tool_step : (n : ℕ) (qs : List ℕ) → n < length s.tool_lines → (before : List Form) (done : List ToolLine) (x : ToolLine) (rest : List ToolLine) → done ++ x ∷ rest ≡ get_or s.tool_lines n []
@@ -128,10 +128,10 @@ module _ {v : Version} (s : Scripted) (h : IsScript s) (covered : IsCovered s) {
       let own = all_in (IsToolLine s.cpus (length s.kinds) s.rings) done x rest (get_or s.tool_lines n []) e (h.tool_lines n [] l) in
       let stored = all_in IsStoredToolLine done x rest (get_or s.tool_lines n []) e (h.stored.tool_lines n [] l) in
       let f = tool_form_of s.kinds s.pmus s.cpus s.rings h.kinds h.kinds_once h.cpus.1 h.rings x own stored in
-      let under : IsSome (last_of (tools_in before)) = rw b.tools (rw (last_is qs n) refl) in
+      let under : IsSome (last_of (tools_in before)) = rw b.tools (rw (last_push qs n) refl) in
       let less = partly_fewer n done s.tool_lines l (fewer done x rest (get_or s.tool_lines n []) e) in
       let count : line_count (script_of before) ≡ line_count t = ap line_count b.script in
-      let next_is : on_tool t (last_of (qs ++ n ∷ [])) (tool_line_of s.kinds f.0) ≡ with_tools s (partly n (done ++ x ∷ []) s.tool_lines) = rw (last_is qs n, f.1.says) (ap (with_tools s) (partly_more n done x s.tool_lines l)) in
+      let next_is : on_tool t (last_of (qs ++ n ∷ [])) (tool_line_of s.kinds f.0) ≡ with_tools s (partly n (done ++ x ∷ []) s.tool_lines) = rw (last_push qs n, f.1.says) (ap (with_tools s) (partly_more n done x s.tool_lines l)) in
       subst (λ g. Run v (before ++ g ∷ []) (with_tools s (partly n (done ++ x ∷ []) s.tool_lines)) ps (qs ++ n ∷ []) 7) (sym f.1.is)
       (push (form.OnTool f.0) (omega arith, omega arith) b (entry tt refl refl refl b.low next_is) (behind_pmus b covered under) (record {
         form = (tt, f.1.spelling);

@@ -22,7 +22,8 @@ use Rattle.script_spec.specs.Printing.{some_of, hits_of, cpu_form, kind_name, ta
 use Rattle.script_spec.specs.Forms as form
 use Rattle.line_forms.proofs.Singles.{bytes_eq-true, bytes_eq_self, name_takes}
 use Rattle.line_forms.specs.Leaves as says
-use Rattle.script_print.proofs.{Cutting.{lacks, pieces_at}, Sections.{ring_small}}
+use Rattle.perf_base.proofs.Limits.{ring_small}
+use Rattle.script_print.proofs.Cutting.{lacks, pieces_at}
 use Rattle.line_forms.proofs.Grammar.{first_is}
 
 pub differ : (a b : List ℕ) → a ≢ b → bytes_eq a b ≡ false

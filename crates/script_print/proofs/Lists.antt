@@ -1,37 +1,25 @@
 -- Entries of a list, and lists that are filled one after the other.
-use Rattle.std.proofs.Common.{◌≡◌, ℕ, zero, suc, ◌-◌, ◌<◌, All, List, [], ◌∷◌, ◌++◌, length, get_or, set, take, replicate, Some, refl, sym, ap, subst, ◌∙◌, arith}
-use Rattle.std.proofs.lemmas.List.{get_or_append_left, length_push, length-append, FromFn.{get_or-range_with_len}, Folds.{sum_by-replicate}}
-use Rattle.std.{proofs.lemmas.List.Sums.{sum_by-cons}, specs.{Prelude.{AllPairs, slice_get, sum_by}, List.{range_with_len}}}
-use Rattle.script_spec.specs.Meaning.{last_of}
+use Rattle.std.proofs.Common.{◌≡◌, ℕ, zero, suc, ◌<◌, All, List, [], ◌∷◌, ◌++◌, length, get_or, set, take, replicate, refl, sym, ap, subst, arith}
+use Rattle.std.proofs.lemmas.List.{get_or_append_left, length-append, FromFn.{get_or-range_with_len}, Folds.{sum_by-replicate}}
+use Rattle.std.{proofs.lemmas.List.Sums.{sum_by-cons}, specs.{Prelude.{AllPairs, sum_by}, List.{range_with_len}}}
+use Rattle.std.proofs.Math.Seq.{get_or-append_seam}
 
 -- ---- an entry behind those before it
-
-pub entry_at : {X : Type 0} (done : List X) (x : X) (rest : List X) (d : X) → get_or (done ++ x ∷ rest) (length done) d ≡ x
-entry_at [] x rest d = refl
-entry_at (y ∷ done) x rest d = entry_at done x rest d
 
 pub fewer : {X : Type 0} (done : List X) (x : X) (rest whole : List X) → done ++ x ∷ rest ≡ whole → length done < length whole
 fewer done x rest whole e = omega (arith, length-append done (x ∷ rest), ap length e)
 
 pub all_in : {X : Type 0} (P : X → Type 0) (done : List X) (x : X) (rest whole : List X) → done ++ x ∷ rest ≡ whole → All P whole → P x
-all_in P done x rest whole e h = subst P (entry_at done x rest x) (subst (All P) (sym e) h (length done) x (fewer done x rest (done ++ x ∷ rest) refl))
+all_in P done x rest whole e h = subst P (get_or-append_seam done x rest x) (subst (All P) (sym e) h (length done) x (fewer done x rest (done ++ x ∷ rest) refl))
 
 pub pairs_in : {X : Type 0} (R : X → X → Type 0) (done : List X) (x : X) (rest whole : List X) → done ++ x ∷ rest ≡ whole → AllPairs R whole → All (λ d. R d x) done
 pairs_in R done x rest whole e h = λ k d l.
     let pair = subst (AllPairs R) (sym e) h k (length done) d l (fewer done x rest (done ++ x ∷ rest) refl) in
-    subst (λ y. R y x) (get_or_append_left done (x ∷ rest) d k l) (subst (λ y. R (get_or (done ++ x ∷ rest) k d) y) (entry_at done x rest d) pair)
+    subst (λ y. R y x) (get_or_append_left done (x ∷ rest) d k l) (subst (λ y. R (get_or (done ++ x ∷ rest) k d) y) (get_or-append_seam done x rest d) pair)
 
 -- a number's place among the numbers from 0 on
 pub number_at : (n i d : ℕ) → i < n → get_or (range_with_len 0 n) i d ≡ i
 number_at n i d l = let e = get_or-range_with_len 0 n i d l in omega (arith, e)
-
--- the last header
-pub last_is : (qs : List ℕ) (n : ℕ) → last_of (qs ++ n ∷ []) ≡ Some n
-last_is qs n = let count : length (qs ++ n ∷ []) - 1 ≡ length qs = omega (arith, length_push qs n) in ap (slice_get (qs ++ n ∷ [])) count ∙ at qs
-  where
-    at : (qs : List ℕ) → slice_get (qs ++ n ∷ []) (length qs) ≡ Some n
-    at [] = refl
-    at (q ∷ qs) = at qs
 
 -- ---- lists that are filled one after the other
 

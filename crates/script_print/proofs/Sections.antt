@@ -1,12 +1,13 @@
 -- The sections of a printed script, each behind those before it: all but those of processors and tools.
 use Rattle.std.proofs.Common.{◌≡◌, ◌≢◌, ℕ, zero, suc, ◌^◌, ◌<◌, ◌≤◌, cond, eqb, All, List, [], ◌∷◌, ◌++◌, map, length, get_or, replicate, inl, inr, refl, sym, ap, subst, ◌∙◌, arith, ◌-◌, false, append_assoc}
 use Rattle.std.proofs.{Math.Nat.{pow-le-pow_right}, lemmas.{Bool.{cases_Bool, eqb-true, ne_eqb}, List.{append-nil, length_push}}}
-use Rattle.std.proofs.lemmas.{List.Elements.{All-head, All-tail, All-nil, All-cons}, Nat.Bits.{same_from_bits_below, bit_at_ones}}
+use Rattle.std.proofs.lemmas.{List.Elements.{All-head, All-nil, All-cons}, Nat.Bits.{same_from_bits_below, bit_at_ones}}
 use Rattle.std.specs.{Prelude.{Any}, Int.{bit_at}}
 use Rattle.perf_base.specs.declared.{numbers.{RingNo.{RingNo}, TaskNo.{TaskNo}, CpuNo.{CpuNo}}, lines.{PmuLine.{PmuLine}, KindLine.{KindLine}}}
 use Rattle.perf_base.specs.declared.{lines.ReaderLine.{ReaderLine}, acts.Act.{Act}}
-use Rattle.perf_base.specs.Scripts.{Scripted, IsScript, IsCovered, IsPmuLine, IsKindLine, IsMaskOf, IsRingLine, IsReaderLine, HasRing, AreApart, IsAct, IsStoredAct}
+use Rattle.perf_base.specs.Scripts.{Scripted, IsScript, IsCovered, IsPmuLine, IsKindLine, IsMaskOf, IsRingLine, IsReaderLine, AreApart, IsAct, IsStoredAct}
 use Rattle.perf_base.specs.{Cpus.{HasCpu}, Weight.{weight}}
+use Rattle.perf_base.proofs.Limits.{ring_small, ring_bytes, mask_small}
 use Rattle.perf_base.specs.declared.acts.Act.TheVariants as act
 use Rattle.script_spec.specs.{Forms.{Version, Form}, Meaning.{kinds_in, processors_in, tools_in, script_of}, Faults.{section, IsNoEnd, IsPlaced}}
 use Rattle.script_spec.specs.{Acts.{IsActInRange}, Texts.{version_of}}
@@ -32,22 +33,6 @@ with_rings s done = record (with_tasks s s.tasks) { rings = done }
 
 abbrev pub with_readers : Scripted → List ReaderLine → Scripted
 with_readers s done = record s { readers = done; order = [] }
-
--- ---- numbers
-
-pub ring_small : (rings : List (RingNo × ℕ)) (ring : RingNo) → All IsRingLine rings → HasRing rings ring → ring.0 < 16
-ring_small rings ring h has = let own = h has.0 has.1 has.2 in let e : (get_or rings has.0 has.1).0 ≡ ring = ap (λ (r : RingNo × ℕ). r.0) has.3 ∙ has.4 in let n : (get_or rings has.0 has.1).0.0 ≡ ring.0 = ap (λ (r : RingNo). r.0) e in omega (arith, own.0, n)
-
-ring_bytes : (r : RingNo × ℕ) → IsRingLine r → r.1 ≤ 65536
-ring_bytes r h = let p : 2 ^ h.1.0 ≤ 2 ^ 16 = pow-le-pow_right {n = 2} (omega arith) h.1.2 in omega (arith, p, h.1.3)
-
-mask_of : (pmus : List PmuLine) (n k mask : ℕ) → All (IsPmuLine n) pmus → IsMaskOf pmus k mask → (k < length pmus) × (mask < 2 ^ 16)
-mask_of [] n k mask h m = absurd m
-mask_of (p ∷ pmus) n zero mask h m =
-    let own = All-head (IsPmuLine n) p pmus h in
-    let power : 2 ^ p.counters ≤ 2 ^ 16 = pow-le-pow_right {n = 2} (omega arith) own.counters.1 in
-    (omega arith, omega (arith, m.1, power))
-mask_of (p ∷ pmus) n (suc k) mask h m = let r = mask_of pmus n k mask (All-tail (IsPmuLine n) p pmus h) m in (omega (arith, r.0), r.1)
 
 -- ---- the sections
 
@@ -103,7 +88,7 @@ module _ (s : Scripted) (h : IsScript s) (covered : IsCovered s) where
       → Run (version_for (length s.pmus)) (before ++ kind_form (length s.pmus) k ∷ []) (with_kinds s (done ++ k ∷ [])) [] [] 3
   kind_step before done k rest e b =
       let own : IsKindLine s.pmus k = all_in (IsKindLine s.pmus) done k rest s.kinds e h.kinds in
-      let m = mask_of s.pmus s.cpus k.pmu k.mask h.pmus own.mask in
+      let m = mask_small s.pmus s.cpus k.pmu k.mask h.pmus own.mask in
       let once : All (λ j. j.name ≢ k.name) (kinds_in before) = rw (says b).kinds (pairs_in (λ j k. j.name ≢ k.name) done k rest s.kinds e h.kinds_once) in
       let few : length (kinds_in before) < 16 = rw (says b).kinds (omega (arith, fewer done k rest s.kinds e, h.kinds_few)) in
       elim (cases_Bool (eqb (length s.pmus) 1)) [

@@ -1,7 +1,7 @@
 -- Forms whose lines are sound one behind the other, and the text that stands for them.
-use Rattle.std.proofs.Common.{◌≡◌, ℕ, ◌<◌, ◌≤◌, Bool, true, false, not, ◌&&◌, eqb, leb, All, List, [], ◌∷◌, ◌++◌, map, length, get_or, inl, inr, refl, sym, ap, subst, ◌∙◌, arith}
-use Rattle.std.proofs.{Math.Seq.{take-append_seam}, lemmas.Bool.{cases_lt, and_parts, and_from, leb-true, le-leb, ne_eqb}}
-use Rattle.std.proofs.lemmas.List.{get_or_append_left, length_push, map-append, take-append-le, Elements.{All-weaker}, Folds.{list_all-append}}
+use Rattle.std.proofs.Common.{◌≡◌, ℕ, ◌<◌, ◌≤◌, Bool, true, false, not, ◌&&◌, eqb, leb, All, List, [], ◌∷◌, ◌++◌, map, refl, ap, subst, ◌∙◌, arith}
+use Rattle.std.proofs.{lemmas.Bool.{and_parts, and_from, leb-true, le-leb, ne_eqb}}
+use Rattle.std.proofs.lemmas.List.{map-append, Elements.{All-weaker}, Folds.{list_all-append}}
 use Rattle.std.{proofs.lemmas.List.Sums.{AllPass-from_list_all, list_all-from_AllPass}, specs.Prelude.{flat_map, Any}}
 use Rattle.std.specs.List.{list_all, join_with_byte}
 use Rattle.perf_base.specs.declared.reasons.SReason.{SReason}
@@ -12,7 +12,8 @@ use Rattle.script_spec.specs.Faults.{IsNoEnd, IsPrintable, IsPlaced, IsInRange, 
 use Rattle.script_spec.specs.{Texts.{version_of, AreSound, StandsFor}, Printing.{line_text}}
 use Rattle.script_spec.specs.Forms as form
 use Rattle.line_forms.proofs.Laws.{one_form}
-use Rattle.script_print.proofs.{Cutting.{lacks, ended, words_again, lines_are, rest_is}, Lists.{entry_at}}
+use Rattle.script_spec.proofs.Sound.{sound_more}
+use Rattle.script_print.proofs.Cutting.{lacks, ended, words_again, lines_are, rest_is}
 use Rattle.script_print.proofs.Plain.{is_graphic, is_plain, are_plain, is_line, form_line}
 
 -- ---- the bytes of a line
@@ -87,18 +88,6 @@ line_sound v before f h placed no_end = record { is = is; keeps = keeps }
     keeps reason.Limit = λ g k. subst (IsWithinLimits before) (same g k) h.others.2
     keeps reason.Weight = λ g k. subst (IsWithinWeight before) (same g k) h.others.3
     keeps reason.Order = tt
-
-sound_more : (v : Version) (lines : List (List ℕ)) (forms : List Form) (line : List ℕ) (f : Form) → AreSound v lines forms → IsSound v forms line f → AreSound v (lines ++ line ∷ []) (forms ++ f ∷ [])
-sound_more v lines forms line f h s = record {
-  as_many = omega (arith, h.as_many, length_push lines line, length_push forms f);
-  each = λ k l. elim (cases_lt k (length lines)) [
-    | inl low ↦ rw (take-append-le k forms (f ∷ []) (omega (arith, low, h.as_many)), get_or_append_left lines (line ∷ []) [] k low, get_or_append_left forms (f ∷ []) form.End k (omega (arith, low, h.as_many))) (h.each k low)
-    | inr high ↦
-        let last : k ≡ length forms = omega (arith, l, high, h.as_many, length_push lines line) in
-        let at : get_or (lines ++ line ∷ []) (length forms) [] ≡ line = subst (λ n. get_or (lines ++ line ∷ []) n [] ≡ line) (sym h.as_many) (entry_at lines line [] []) in
-        rw (last, at, take-append_seam forms (f ∷ []), entry_at forms f [] form.End) s
-  ];
-}
 
 -- the lines of the forms are sound, and end nowhere but at their ends
 pub record AreSoundForms (v : Version) (forms : List Form) : Type 0 where

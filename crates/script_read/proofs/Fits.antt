@@ -1,25 +1,18 @@
 -- What a form says, where it keeps what is asked of it, the script can hold.
-use Rattle.std.proofs.Common.{◌≡◌, ℕ, zero, suc, ◌-◌, ◌^◌, ◌<◌, ◌≤◌, ◌&&◌, ◌||◌, eqb, ltb, All, List, [], ◌∷◌, map, length, Option, Some, None, option_map, inl, inr, refl, sym, ap, subst, ◌∙◌, arith}
+use Rattle.std.proofs.Common.{◌≡◌, ℕ, ◌-◌, ◌<◌, ◌≤◌, ◌&&◌, ◌||◌, eqb, ltb, All, List, [], ◌∷◌, map, length, Option, Some, None, option_map, inl, inr, refl, sym, ap, subst, ◌∙◌, arith}
 use Rattle.std.proofs.lemmas.{Option.{same_Some}, Bool.{cases_Bool, ltb-true, and_parts}, List.{length-map, drop_at}}
 use Rattle.std.proofs.lemmas.List.{Elements.{All-cons, All-head, All-tail, All-append, All-replicate}, Quantifiers.{position-Some}}
-use Rattle.std.{proofs.Math.Nat.{pow-le-pow_right}, specs.{Prelude.{replicate, IfSome}, Str.{bytes_eq}}}
-use Rattle.perf_base.specs.declared.{attr.Kind.{Kind}, lines.{PmuLine.{PmuLine}, KindLine.{KindLine}, ToolLine.{ToolLine}}}
-use Rattle.perf_base.specs.Scripts.{Scripted, IsPmuLine, IsMaskOf, IsCpuLine, IsToolLine, IsKind, IsTaskSel, IsCpuSel, IsSlot}
+use Rattle.std.{specs.{Prelude.{replicate, IfSome}, Str.{bytes_eq}}}
+use Rattle.perf_base.specs.declared.{attr.Kind.{Kind}, lines.{KindLine.{KindLine}, ToolLine.{ToolLine}}}
+use Rattle.perf_base.specs.Scripts.{Scripted, IsCpuLine, IsToolLine, IsKind, IsTaskSel, IsCpuSel, IsSlot}
 use Rattle.perf_base.specs.Kinds.{software_kind}
+pub use Rattle.perf_base.proofs.Limits.{mask_small}
 use Rattle.perf_base.specs.declared.attr.Kind.TheVariants as kind
 use Rattle.attr_bytes.{proofs.Bits.{flags_of_word-few}, specs.{Kinds.{kind_numbered}, Layout.{type_in, config_in, flag_word_in}}}
 use Rattle.script_spec.specs.{Forms.{Hit, CpuForm, ToolForm}, Faults.{IsAmount, IsCpuFormInRange, IsToolFormInRange}}
 use Rattle.script_spec.specs.Meaning.{number_of, kind_named, kind_of_bytes, times_of, or_zero, cpu_line_of, tool_line_of, task_sel, cpu_sel, slot, open_line, asked_attr, bytes_attr}
 use Rattle.script_spec.specs.Forms as form
 use Rattle.script_read.specs.Names.{IsToolFormNamedOf}
-
-pub mask_small : (pmus : List PmuLine) (n pmu mask : ℕ) → All (IsPmuLine n) pmus → IsMaskOf pmus pmu mask → (pmu < length pmus) × (mask < 2 ^ 16)
-mask_small [] n pmu mask all h = absurd h
-mask_small (p ∷ pmus) n zero mask all h =
-    let line = All-head (IsPmuLine n) p pmus all in
-    let le : 2 ^ p.counters ≤ 2 ^ 16 = let c : p.counters ≤ 16 = line.counters.1 in pow-le-pow_right {n = 2} (omega arith) c in
-    (omega arith, omega (arith, le, h.1))
-mask_small (p ∷ pmus) n (suc k) mask all h = grind (arith, All-tail, mask_small pmus n k mask (All-tail (IsPmuLine n) p pmus all) h)
 
 -- ---- lines of processors
 

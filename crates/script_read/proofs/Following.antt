@@ -1,11 +1,11 @@
 -- The state with one form more is that behind the forms with one more.
-use Rattle.std.proofs.Common.{◌≡◌, ℕ, zero, suc, ◌+◌, ◌-◌, ◌<◌, ◌≤◌, All, List, [], ◌∷◌, ◌++◌, length, Option, Some, None, refl, sym, ap, subst, ◌∙◌, arith}
+use Rattle.std.proofs.Common.{◌≡◌, ℕ, zero, suc, ◌-◌, ◌<◌, ◌≤◌, All, List, [], ◌∷◌, ◌++◌, length, Option, Some, None, refl, sym, ap, subst, ◌∙◌, arith}
 use Rattle.std.proofs.lemmas.List.{append-nil, length_push, Elements.{All-push, All-weaker}, Quantifiers.{Any-push}}
 use Rattle.std.specs.{Prelude.{slice_get, slice_index, filter_map, IfSome}, List.{cons_option}}
 use Rattle.perf_base.specs.{declared.lines.PmuLine.{PmuLine}, Scripts.{Scripted, IsScript}}
 use Rattle.script_spec.specs.Forms.{Form}
 use Rattle.script_spec.specs.Meaning.{machine_cpus, pmu_said, processor_said, tool_said, cpus_in, pmus_in, processors_in, tools_in, last_of, script_of}
-use Rattle.script_spec.{specs.{Faults.{section}, Saying.{said_by, IsLater}}, proofs.{Snoc.{pushed}, More.{script_more}}}
+use Rattle.script_spec.{specs.{Faults.{section}, Saying.{said_by, IsLater}}, proofs.{Snoc.{pushed, last_push}, More.{script_more}}}
 use Rattle.script_spec.specs.Forms as form
 use Rattle.script_read.specs.{declared.state.State.{State}, State.{rank_of, part_of, cpu_number, tool_number, union_of, IsGreatest, Follows}}
 use Rattle.script_read.specs.{Place.{IsPlacedOf}, Numbers.{IsInRangeOf}, Adding.{next_cpu, next_tool, next_named, IsAdded}}
@@ -24,16 +24,6 @@ next_tool_is o (form.Tool n) = refl
 next_tool_is o other = refl
 
 -- ---- numbers that rise
-
-last_push : (ns : List ℕ) (n : ℕ) → last_of (ns ++ n ∷ []) ≡ Some n
-last_push ns n = ap (slice_get (ns ++ n ∷ [])) (ap (λ k. k - 1) (length_push ns n) ∙ one_less (length ns)) ∙ at_end ns n
-  where
-    one_less : (k : ℕ) → k + 1 - 1 ≡ k
-    one_less k = omega arith
-
-    at_end : (ns : List ℕ) (n : ℕ) → slice_get (ns ++ n ∷ []) (length ns) ≡ Some n
-    at_end [] n = refl
-    at_end (m ∷ ns) n = at_end ns n
 
 pub none_empty : (ns : List ℕ) → last_of ns ≡ None → ns ≡ []
 none_empty [] e = refl

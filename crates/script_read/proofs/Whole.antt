@@ -1,11 +1,12 @@
 -- Line after line, and the whole text.
-use Rattle.std.proofs.Common.{◌≡◌, ℕ, ◌+◌, true, List, [], ◌∷◌, ◌++◌, length, length-append, get_or, take, Result, Ok, Err, inl, inr, refl, sym, ap, subst, ◌∙◌, arith, append_assoc}
-use Rattle.std.proofs.lemmas.{Bool.{cases_lt}, List.{append-nil, length_push, take-append-le, take_at, get_or_append_left}}
-use Rattle.std.specs.Prelude.{Any, IfOk}
+use Rattle.std.proofs.Common.{◌≡◌, ℕ, ◌+◌, true, List, [], ◌∷◌, ◌++◌, length, length-append, get_or, take, Result, Ok, Err, inl, refl, sym, ap, subst, ◌∙◌, arith, append_assoc}
+use Rattle.std.proofs.lemmas.{List.{append-nil, length_push, take_at}}
+use Rattle.std.{proofs.Math.Seq.{get_or-append_seam}, specs.Prelude.{Any, IfOk}}
 use Rattle.perf_base.specs.{declared.reasons.SReason.{SReason}, Scripts.{Scripted}}
 use Rattle.script_spec.specs.{Lines.{lines_of, rest_of}, Forms.{Version, Form}, Meaning.{script_of}, Faults.{section, IsSound, IsFaulty}}
 use Rattle.script_spec.specs.Texts.{version_of, AreSound, StandsFor, IsRefused}
 use Rattle.script_spec.specs.Forms as form
+pub use Rattle.script_spec.proofs.Sound.{sound_more}
 use Rattle.script_read.specs.{declared.{progress.Progress.{Progress}, fault.{ScriptFault.{ScriptFault}, LineFault.{LineFault}}}, Fault.{Blames}}
 use Rattle.script_read.specs.Progress.{Behind, ended_of, IsTakenLine}
 use Rattle.script_read.specs.Reading.{IsNextLine, HasNoLine, IsReading, Says, IsFinished, IsBlamed, blamed_of}
@@ -13,21 +14,6 @@ use Rattle.script_read.proofs.Beginning.{end_rank}
 use Rattle.script_read.specs.declared.progress.Progress.TheVariants as progress
 use Rattle.script_read.specs.declared.fault.ScriptFault.TheVariants as fault
 use Rattle.script_read.specs.declared.fault.LineFault.TheVariants as line_fault
-
-pub get_last : {X : Type 0} (xs : List X) (x d : X) (rest : List X) → get_or (xs ++ x ∷ rest) (length xs) d ≡ x
-get_last [] x d rest = refl
-get_last (y ∷ xs) x d rest = get_last xs x d rest
-
--- ---- one line more
-
-pub sound_more : (v : Version) (lines : List (List ℕ)) (before : List Form) (line : List ℕ) (f : Form) → AreSound v lines before → IsSound v before line f → AreSound v (lines ++ line ∷ []) (before ++ f ∷ [])
-sound_more v lines before line f h s = record {
-  as_many = length_push before f ∙ (ap (λ n. n + 1) h.as_many ∙ sym (length_push lines line));
-  each = λ k l. elim (cases_lt k (length lines)) [
-    | inl less ↦ grind (arith, length, take-append-le, get_or_append_left, less)
-    | inr past ↦ grind (arith, length, length_push, take, take_at, get_or, get_last)
-  ];
-}
 
 -- the lines that were read, and one more
 split_more : (all front : List (List ℕ)) (line : List ℕ) (more : List (List ℕ)) (n : ℕ) → all ≡ front ++ (line ∷ more) → length front ≡ n → take (n + 1) all ≡ front ++ line ∷ []
@@ -62,7 +48,7 @@ refused_at text v p n left line more q e r x h =
     let split : lines_of text ≡ take n (lines_of text) ++ (line ∷ lines_of more) = r.lines ∙ ap (λ (ls : List (List ℕ)). take n (lines_of text) ++ ls) x.lines in
     let len : length (take n (lines_of text)) ≡ n = front_length text p n left r in
     let whole : length (lines_of text) ≡ length (take n (lines_of text)) + length (line ∷ lines_of more) = ap length split ∙ length-append (take n (lines_of text)) (line ∷ lines_of more) in
-    let at : get_or (lines_of text) (length r.forms) [] ≡ line = ap (λ (ls : List (List ℕ)). get_or ls (length r.forms) []) split ∙ (ap (λ k. get_or (take n (lines_of text) ++ (line ∷ lines_of more)) k []) (r.many ∙ sym len) ∙ get_last (take n (lines_of text)) line [] (lines_of more)) in (
+    let at : get_or (lines_of text) (length r.forms) [] ≡ line = ap (λ (ls : List (List ℕ)). get_or ls (length r.forms) []) split ∙ (ap (λ k. get_or (take n (lines_of text) ++ (line ∷ lines_of more)) k []) (r.many ∙ sym len) ∙ get_or-append_seam (take n (lines_of text)) line (lines_of more) []) in (
       r.forms,
       inl (record {
         within = omega (arith, whole, len, r.many);

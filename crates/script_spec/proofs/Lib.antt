@@ -1,2 +1,3 @@
 pub mod More
 pub mod Snoc
+pub mod Sound

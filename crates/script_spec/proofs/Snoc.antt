@@ -1,17 +1,15 @@
 -- The script that forms say, with one form more.
-use Rattle.std.proofs.Common.{◌≡◌, ◌≢◌, ℕ, zero, suc, ◌+◌, ◌<◌, List, [], ◌∷◌, ◌++◌, map, get_or, set, Option, refl, sym, ap, subst, ◌∙◌, arith, append_assoc}
-use Rattle.std.{proofs.lemmas.{List.{append-nil, Elements.{filter_map-append}}, Grind.{flat_map-append}}, specs.Prelude.{filter_map}}
+use Rattle.std.proofs.Common.{◌≡◌, ◌≢◌, ℕ, zero, suc, ◌+◌, ◌-◌, ◌<◌, List, [], ◌∷◌, ◌++◌, length, map, get_or, set, Option, Some, refl, sym, ap, subst, ◌∙◌, arith, append_assoc}
+use Rattle.std.{proofs.lemmas.{List.{append-nil, length_push, Elements.{filter_map-append}}, Grind.{flat_map-append}}, specs.Prelude.{filter_map, slice_get}}
 use Rattle.std.specs.List.{cons_option}
-use Rattle.script_spec.specs.{Forms.{Form}, Meaning.{acts_said, acts_in, cpu_line_at, tool_line_at, each_behind, cpu_lines_in, tool_lines_in}}
+use Rattle.perf_base.proofs.FlatMaps.{flat_map_after-push}
+use Rattle.script_spec.specs.{Forms.{Form}, Meaning.{acts_said, acts_in, cpu_line_at, tool_line_at, each_behind, cpu_lines_in, tool_lines_in, last_of}}
 
 pub pushed : {Y : Type 0} (h : Form → Option Y) (forms : List Form) (f : Form) → filter_map h (forms ++ f ∷ []) ≡ filter_map h forms ++ cons_option (h f) []
 pushed h forms f = filter_map-append h forms (f ∷ [])
 
 behind_more : (before forms : List Form) (f : Form) → each_behind before (forms ++ f ∷ []) ≡ each_behind before forms ++ (before ++ forms, f) ∷ []
-behind_more before [] f = ap (λ (b : List Form). (b, f) ∷ []) (sym (append-nil before))
-behind_more before (g ∷ forms) f =
-    ap (λ (es : List (List Form × Form)). (before, g) ∷ es) (behind_more (before ++ g ∷ []) forms f
-    ∙ ap (λ (b : List Form). each_behind (before ++ g ∷ []) forms ++ (b, f) ∷ []) (append_assoc before (g ∷ []) forms))
+behind_more before forms f = flat_map_after-push (λ earlier g. (earlier, g) ∷ []) before forms f
 
 pub cpu_lines_more : (forms : List Form) (f : Form) (p : ℕ) → cpu_lines_in (forms ++ f ∷ []) p ≡ cpu_lines_in forms p ++ cons_option (cpu_line_at p (forms, f)) []
 cpu_lines_more forms f p = ap (filter_map (cpu_line_at p)) (behind_more [] forms f) ∙ filter_map-append (cpu_line_at p) (each_behind [] forms) ((forms, f) ∷ [])
@@ -21,6 +19,14 @@ tool_lines_more forms f t = ap (filter_map (tool_line_at t)) (behind_more [] for
 
 pub acts_more : (forms : List Form) (f : Form) → acts_in (forms ++ f ∷ []) ≡ acts_in forms ++ acts_said f
 acts_more forms f = flat_map-append acts_said forms (f ∷ []) ∙ ap (λ (a : List _). acts_in forms ++ a) (append-nil (acts_said f))
+
+-- the last number
+pub last_push : (ns : List ℕ) (n : ℕ) → last_of (ns ++ n ∷ []) ≡ Some n
+last_push ns n = ap (slice_get (ns ++ n ∷ [])) (let e : length (ns ++ n ∷ []) - 1 ≡ length ns = omega (arith, length_push ns n) in e) ∙ at_end ns
+  where
+    at_end : (ns : List ℕ) → slice_get (ns ++ n ∷ []) (length ns) ≡ Some n
+    at_end [] = refl
+    at_end (m ∷ ns) = at_end ns
 
 -- numbers from one on
 abbrev pub from : ℕ → ℕ → List ℕ

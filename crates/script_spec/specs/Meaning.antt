@@ -3,6 +3,7 @@
 -- profile.
 use Rattle.std.specs.Prelude.{ℕ, ◌-◌, ◌^◌, ◌==◌, Bool, false, List, [], ◌∷◌, ◌++◌, length, map, filter_map, flat_map, position, replicate, slice_get, slice_index, Option, Some, None, option_map, unwrap_or, if◌then◌else◌}
 use Rattle.std.specs.{Option.{option_or}, Str.{bytes_eq}}
+use Rattle.perf_base.specs.FlatMaps.{flat_map_after}
 use Rattle.perf_base.specs.declared.{numbers.{EventNo.{EventNo}, RingNo.{RingNo}, TaskNo.{TaskNo}}, attr.{Attr.{Attr}, Kind.{Kind}}}
 use Rattle.perf_base.specs.declared.{attr.{TaskSel.{TaskSel}, CpuSel.{CpuSel}}, lines.{PmuLine.{PmuLine}, KindLine.{KindLine}, CpuLine.{CpuLine}}}
 use Rattle.perf_base.specs.{declared.{lines.{ToolLine.{ToolLine}, ReaderLine.{ReaderLine}}, acts.Act.{Act}}, Scripts.{Scripted}}
@@ -198,8 +199,7 @@ tool_line_at tool (before, other) = None
 
 -- each form beside those before it
 abbrev pub each_behind : List Form → List Form → List (List Form × Form)
-each_behind before [] = []
-each_behind before (f ∷ forms) = (before, f) ∷ each_behind (before ++ f ∷ []) forms
+each_behind before forms = flat_map_after (λ earlier f. (earlier, f) ∷ []) before forms
 
 abbrev pub cpu_lines_in : List Form → ℕ → List CpuLine
 cpu_lines_in forms cpu = filter_map (cpu_line_at cpu) (each_behind [] forms)

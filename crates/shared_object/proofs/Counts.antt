@@ -6,8 +6,8 @@ use lib.ListN.{get_elem?}
 use Rattle.atomic_table.specs.Table.{State, keeps, Allows}
 use Rattle.shared_object.specs.{declared.view.View.{View}, Histories.{most_calls}, Views.{Slot, Holder, all_seen, told, with_own}}
 use Rattle.shared_object.specs.{Rule.{IsFree, IsHeld, Knows, IsKept}, Steps.{LoadsCount, ComparesCount, StoresCount}}
-use Rattle.shared_object.proofs.Prefixes.{prefix_self, longer_so, one_begins}
-use Rattle.shared_object.proofs.Names.{IsLater, same_pass, below_or_at}
+use Rattle.perf_base.proofs.Prefixes.{prefix_self}
+use Rattle.shared_object.proofs.{Prefixes.{longer_so, one_begins}, Names.{IsLater, same_pass, below_or_at}}
 use Rattle.shared_object.proofs.Keeping.{changed, knows, same_history, turn_rests, turn_stays, longer_history}
 
 module _ {O K C R : Type 0} (after : K → O → List (C × R) → Type 0) (legal : K → List (C × R) → Type 0) (key : K) (slots id : ℕ) (m : Holder O K C R) (live : m.0.key ≡ Some key) where

@@ -2,9 +2,10 @@
 use Rattle.std.proofs.Common.{◌≡◌, ◌≢◌, ℕ, ◌<◌, ◌≤◌, ◌⊎◌, true, false, List, Some, None, [], ◌++◌, length, set, slice_index, Contains, refl, sym, ap, ◌∙◌, subst, inl, inr, ⊎_elim, true≢false, length-append, arith}
 use mathlib.Core.Option.{Option, some}
 use lib.ListN.{get_elem?}
-use Rattle.atomic_table.{specs.Table.{State}, proofs.Lists.{at_set}}
+use Rattle.atomic_table.{specs.Table.{State}, proofs.Lists.{at_set, set_else}}
 use Rattle.shared_object.specs.{declared.view.View.{View}, Histories.{most_calls}, Views.{Slot, spent}, Rule.{holders, IsFree, IsHeld, Knows, IsKept}}
-use Rattle.shared_object.proofs.{Alone.{it_stays, others_stay, none_passes, no_other}, Prefixes.{prefix_more}, Names.{IsLater, named_still}}
+use Rattle.perf_base.proofs.{Alone.{it_stays, it_goes, others_stay, none_passes}, Prefixes.{prefix_more}}
+use Rattle.shared_object.proofs.Names.{IsLater, named_still}
 
 -- the table after a step of the seat
 abbrev pub changed : {O K C R : Type 0} → State (Slot O C R) (View K C R) → List ℕ → List (Option (Slot O C R)) → ℕ → View K C R → State (Slot O C R) (View K C R)
@@ -99,7 +100,8 @@ module _ {O K C R : Type 0} (after : K → O → List (C × R) → Type 0) (lega
       }
 
       pub others_rest : (seat : ℕ) (u : View K C R) → seat ≢ id → get_elem? s.views seat ≡ some u → u.holds ≡ false
-      others_rest seat u apart there = no_other (λ z. z.holds) s.views id v at held.holder spent holds refl held.one_holds seat u apart there
+      others_rest seat u apart there =
+          none_passes (λ z. z.holds) (set s.views id spent) seat u (set_else s.views id seat spent apart ∙ there) (it_goes (λ z. z.holds) s.views id v at held.holder spent holds refl held.one_holds)
 
       -- a step of the seat with the turn, after which the history is longer
       pub longer_history : (words : List ℕ) (w : View K C R) (more : List (C × R)) → length words ≡ 2 → slice_index words 0 ≡ slice_index s.words 0 → w.holds ≡ true

@@ -1,15 +1,9 @@
 -- Beginnings of lists.
-use Rattle.std.proofs.Common.{◌≡◌, Bool, true, false, cond, nat_lt, ◌⊎◌, List, [], ◌∷◌, ◌++◌, length, drop, get_or, refl, sym, ap, ◌∙◌, inl, inr, ⊎_elim, append_assoc, append-nil, arith}
+use Rattle.std.proofs.Common.{◌≡◌, Bool, true, false, cond, nat_lt, ◌⊎◌, List, [], ◌∷◌, length, drop, get_or, refl, sym, ap, ◌∙◌, inl, inr, ⊎_elim, arith}
 use mathlib.Core.List.{IsPrefix}
 use Rattle.shared_object.specs.Histories.{longer}
 
 module _ {A : Type 0} where
-  pub prefix_self : (xs : List A) → IsPrefix xs xs
-  prefix_self xs = ([], append-nil xs)
-
-  pub prefix_more : (xs ys zs : List A) → IsPrefix xs ys → IsPrefix xs (ys ++ zs)
-  prefix_more xs ys zs p = (p.0 ++ zs, sym (append_assoc xs p.0 zs) ∙ ap (λ (l : List A). l ++ zs) p.1)
-
   -- of two beginnings of one list, one begins the other
   pub one_begins : (xs ys zs : List A) → IsPrefix xs zs → IsPrefix ys zs → IsPrefix xs ys ⊎ IsPrefix ys xs
   one_begins [] ys zs p q = inl (ys, refl)

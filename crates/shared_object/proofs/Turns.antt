@@ -6,8 +6,9 @@ use prog.Atomic.{either}
 use lib.ListN.{get_elem?}
 use Rattle.atomic_table.{specs.Table.{State, Act, keeps, takes, gives, Valid, Allows, stepped, carried_after, put_back}, proofs.Lists.{exchanged}}
 use Rattle.shared_object.specs.{declared.view.View.{View}, Views.{Slot, Holder, finding, with_turn, at_rest}}
-use Rattle.shared_object.{specs.{Rule.{Stores, IsFree, IsHeld, Knows, IsKept}, Steps.{TakesTurn, StoresTurn}}, proofs.Alone.{it_comes, it_goes}}
-use Rattle.shared_object.proofs.{Prefixes.{prefix_self}, Names.{same_pass}, Keeping.{knows, same_history, turn_rests, held}}
+use Rattle.shared_object.specs.{Rule.{Stores, IsFree, IsHeld, Knows, IsKept}, Steps.{TakesTurn, StoresTurn}}
+use Rattle.perf_base.proofs.{Alone.{it_comes, it_goes}, Prefixes.{prefix_self}}
+use Rattle.shared_object.proofs.{Names.{same_pass}, Keeping.{knows, same_history, turn_rests, held}}
 
 module _ {O K C R : Type 0} (after : K → O → List (C × R) → Type 0) (legal : K → List (C × R) → Type 0) (key : K) (slots id : ℕ) (m : Holder O K C R) (live : m.0.key ≡ Some key) where
   -- a view that found the turn held knows what it knew

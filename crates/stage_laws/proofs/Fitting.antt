@@ -1,6 +1,6 @@
 -- Masks that fit together fit also without some of them.
 use Rattle.std.{specs.{Prelude.{◌≡◌, ℕ, zero, suc, Bool, true, false, not, ◌&&◌, ◌||◌, nat_eq, List, [], ◌∷◌}, List.{list_any}}, proofs.Common.{refl}}
-use Rattle.std.proofs.lemmas.Bool.{false≢true}
+use Rattle.std.proofs.lemmas.Bool.{false≢true, or_right}
 use Rattle.stage_spec.specs.Fits.{can_count, fits_below, fits_beside}
 
 -- each counter that is taken here is taken there
@@ -13,10 +13,6 @@ or-more false a b f h = f h
 
 AreTaken-cons : (c : ℕ) (here there : List ℕ) → AreTaken here there → AreTaken (c ∷ here) (c ∷ there)
 AreTaken-cons c here there h d = or-more (nat_eq d c) (list_any (nat_eq d) here) (list_any (nat_eq d) there) (h d)
-
-or_right : (t a : Bool) → a ≡ true → (t || a) ≡ true
-or_right true a h = refl
-or_right false a h = h
 
 AreTaken-push : (c : ℕ) (taken : List ℕ) → AreTaken taken (c ∷ taken)
 AreTaken-push c taken d = or_right (nat_eq d c) (list_any (nat_eq d) taken)

@@ -2,7 +2,6 @@
 use Rattle.std.specs.Prelude.{◌≡◌, ℕ, ◌+◌, ◌≤◌, All, Bool, true, false, ◌||◌, cond, List, [], ◌∷◌, find, is_some, Option, Some, None}
 use Rattle.std.{specs.List.{list_any}, proofs.{Common.{arith, refl, ap, subst}, lemmas.List.Elements.{All-head, All-tail}}}
 use Rattle.stage_laws.proofs.Totals.{total}
-use Rattle.stage_spec.proofs.Present.{find-passes}
 
 -- a number of what is found, and none of nothing
 weight_of : {X : Type 0} → (X → ℕ) → Option X → ℕ

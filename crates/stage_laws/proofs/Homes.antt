@@ -12,7 +12,7 @@ use Rattle.perf_base.specs.declared.standing.Context.TheVariants as context
 use Rattle.stage_spec.specs.{declared.instance.{Instance.{Instance}, TaskState.{TaskState}, TaskStatus.{TaskStatus}}, Hardware.{Hardware}}
 use Rattle.stage_spec.specs.Places.{is_all_tasks}
 use Rattle.stage_spec.specs.Stage.{Stage, Lists, lists_of, no_groups, place_of, unknown_task, is_live, was_used, is_original, is_of_family, original_of, change_lists}
-use Rattle.stage_spec.specs.{Verdict.{Judged}, Settle.{settle_lists, settle_pass}, Closing.{without}, Rotation.{turn_lists}, Commands.{is_reached}}
+use Rattle.stage_spec.specs.{Verdict.{Judged}, Settle.{settle_lists}, Closing.{without}, Rotation.{turn_lists}, Commands.{is_reached}}
 use Rattle.stage_spec.{specs.Forks.{copied, present_period}, proofs.Each.{InLists, no_groups-In}}
 use Rattle.stage_spec.proofs.Inside.{weaker-in, both-in, LeavesOwn, settle_lists-in, turn_lists-in, change_lists-in, without-in, copied-in}
 use Rattle.stage_spec.proofs.Contexts.{At}

@@ -1,7 +1,7 @@
 -- What a fork adds is a copy of each instance, one after the other in the order of their ids.
 use Rattle.std.specs.Prelude.{◌≡◌, ℕ, zero, suc, ◌+◌, Bool, true, false, ◌&&◌, find, Option, Some, None, if◌then◌else◌, List, [], ◌∷◌, ◌++◌, map, flat_map, length, sum_by}
 use Rattle.std.{specs.Option.{option_or}, proofs.Common.{arith, refl, sym, ap, ◌∙◌, append-nil, append_assoc, get_or, set, get_or-set_same}}
-use Rattle.std.proofs.lemmas.{Bool.{cases_lt}, Grind.{flat_map-append}, List.{set-set, set-get_or, set_past, length-append, length-map}}
+use Rattle.std.proofs.lemmas.{Bool.{cases_lt, and_right}, Grind.{flat_map-append}, List.{set-set, set-get_or, set_past, length-append, length-map}}
 use Rattle.std.proofs.lemmas.List.{Folds.{find-append}, Sums.{sum_by-cons}}
 use Rattle.perf_base.specs.declared.numbers.{EventNo.{EventNo}, TaskNo.{TaskNo}}
 use Rattle.perf_base.specs.declared.standing.Context.TheVariants as context
@@ -128,12 +128,8 @@ set-finds p [] k l same = refl
 set-finds p (m ∷ contexts) zero l same = found-beside p (groups_in l) (groups_in m) (flat_map groups_in contexts) (flat_map groups_in contexts) same refl
 set-finds p (m ∷ contexts) (suc k) l same = grind (arith, found-beside, set, set-finds p contexts k l same)
 
-pub and-false : (b : Bool) → (b && false) ≡ false
-and-false true = refl
-and-false false = refl
-
 no_original : (e : EventNo) (i : Instance) → i.copy ≡ true → is_original e i ≡ false
-no_original e i copy = rw copy (and-false (is_of_family e i))
+no_original e i copy = rw copy (and_right (is_of_family e i) false refl)
 
 instance-finds : (child : TaskNo) (parent : Parent) (i : Instance) (s : Stage) (e : EventNo) → i.copy ≡ true → original_of (add_instance child parent i s) e ≡ original_of s e
 instance-finds child parent i s e copy = grind (arith, set-finds, add_copy-finds, no_original)

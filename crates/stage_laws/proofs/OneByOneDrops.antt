@@ -8,7 +8,7 @@ use Rattle.perf_base.specs.declared.standing.Context.TheVariants as context
 use Rattle.stage_spec.specs.{declared.instance.Instance.{Instance}, Hardware.{Hardware}}
 use Rattle.stage_spec.specs.Stage.{Stage, Group, members_of, alone, Lists, lists_of, no_groups, groups_in, members, all_groups, all_instances, place_of, is_of_family, is_copy}
 use Rattle.stage_spec.specs.{Closing.{staying, kept_group, freed_groups, without, closed}, Verdict.{instances_in}}
-use Rattle.stage_spec.proofs.Each.{Each, none-Each, append-Each, filter-Each, flat_map-Each, weaker-Each, get_or-Each, InGroup, InGroups, InLists, InStage, no_groups-In}
+use Rattle.stage_spec.proofs.Each.{Each, none-Each, append-Each, filter-Each, flat_map-Each, flat_map-same, weaker-Each, get_or-Each, InGroup, InGroups, InLists, InStage, no_groups-In}
 use Rattle.stage_spec.proofs.Parts.{Each-from_All, front-Each, back-Each, joined-Each}
 use Rattle.stage_spec.proofs.{Inside.{members-in, InLists-from_members, InStage-from_all, weaker-in, both-in, without-in}, Contexts.{each-from_At}}
 use Rattle.stage_spec.proofs.Settling.{either}
@@ -46,17 +46,12 @@ freed-same : (p q : Instance → Bool) (g : Group) → InGroup (λ i. p i ≡ q 
 unfolding Each
 freed-same p q g same = grind (arith, either, staying-same)
 
-flat_map-same_each : {X Y : Type 0} (f g : X → List Y) (xs : List X) → Each (λ x. f x ≡ g x) xs → flat_map f xs ≡ flat_map g xs
-unfolding Each
-flat_map-same_each f g [] same = refl
-flat_map-same_each f g (x ∷ xs) same = rw (same.0, flat_map-same_each f g xs same.1) refl
-
 without-same : (p q : Instance → Bool) (l : Lists) → InLists (λ i. p i ≡ q i) l → without p l ≡ without q l
 without-same p q l same =
     let kept : (groups : List Group) → InGroups (λ i. p i ≡ q i) groups → flat_map (kept_group p) groups ≡ flat_map (kept_group q) groups
-    = λ groups h. flat_map-same_each (kept_group p) (kept_group q) groups (weaker-Each (InGroup (λ i. p i ≡ q i)) (λ g. kept_group p g ≡ kept_group q g) (kept-same p q) groups h) in
+    = λ groups h. flat_map-same (kept_group p) (kept_group q) groups (weaker-Each (InGroup (λ i. p i ≡ q i)) (λ g. kept_group p g ≡ kept_group q g) (kept-same p q) groups h) in
     let freed : flat_map (freed_groups p) (groups_in l) ≡ flat_map (freed_groups q) (groups_in l)
-    = flat_map-same_each (freed_groups p) (freed_groups q) (groups_in l) (weaker-Each (InGroup (λ i. p i ≡ q i)) (λ g. freed_groups p g ≡ freed_groups q g) (freed-same p q) (groups_in l)
+    = flat_map-same (freed_groups p) (freed_groups q) (groups_in l) (weaker-Each (InGroup (λ i. p i ≡ q i)) (λ g. freed_groups p g ≡ freed_groups q g) (freed-same p q) (groups_in l)
     (append-Each (InGroup (λ i. p i ≡ q i)) l.pinned l.flexible same.in_pinned same.in_flexible)) in
     rw (kept l.pinned same.in_pinned, kept l.flexible same.in_flexible, freed) refl
 
@@ -73,9 +68,6 @@ none-goes : (p : Instance → Bool) (l : Lists) → InLists (λ i. p i ≡ false
 none-goes p l none = without-none p l (record { pinned = none_of-members p l.pinned none.in_pinned; flexible = none_of-members p l.flexible none.in_flexible })
 
 -- ids that no instance of a context has
-plus-none : (n : ℕ) → n ≡ n + 0
-plus-none n = omega arith
-
 not_passed : (b : Bool) (m n : ℕ) → m ≡ as_number b + n → m ≡ 0 → b ≡ false
 not_passed true m n e none = absurd (omega (arith, e, none))
 not_passed false m n e none = refl
@@ -91,7 +83,7 @@ dropped-none (id ∷ ids) l none =
 
 none_weighs : (test : Instance → Bool) (xs : List Instance) → total (one_if test) xs ≡ 0 → Each (λ i. test i ≡ false) xs
 none_weighs test xs none = Each-from_All (λ i. test i ≡ false) xs
-    (All-by_total (one_if test) (λ i. test i ≡ false) (λ i h. not_passed (test i) 0 0 (sym h ∙ plus-none (as_number (test i))) refl) xs none)
+    (All-by_total (one_if test) (λ i. test i ≡ false) (λ i h. not_passed (test i) 0 0 (let none : as_number (test i) ≡ 0 = h in omega (arith, none)) refl) xs none)
 
 -- a context with at most one of the instances that go
 id-goes : (b c : Bool) (m n : ℕ) → m ≡ as_number b + n → m ≡ as_number c → as_number b ≤ as_number c
@@ -107,7 +99,7 @@ stays-none false n h e = h
 
 dropped-at_most_one : (test : Instance → Bool) (ids : List ℕ) (l : Lists) → InLists (λ i. StandsAs ids i (test i)) l → lists_weight (one_if test) l ≤ 1
     → in_turn (λ id. without (has_id id)) ids l ≡ without test l
-dropped-at_most_one test [] l stands few = grind (arith, none-goes, weaker-in, StandsAs, not_passed, plus-none, as_number)
+dropped-at_most_one test [] l stands few = grind (arith, none-goes, weaker-in, StandsAs, not_passed, as_number)
 dropped-at_most_one test (id ∷ ids) l stands few =
     let counted : (i : Instance) → count_by (λ n. i.id == n) (id ∷ ids) ≡ as_number (has_id id i) + count_by (λ n. i.id == n) ids = λ i. count-cons (λ n. i.id == n) id ids in
     elim (cases_eq (lists_weight (one_if (has_id id)) l) 0) [
@@ -247,7 +239,7 @@ record AllGoFor (p test : Instance → Bool) (l : Lists) : Type 0 where
 
 kept_all-twice : (p test : Instance → Bool) (groups : List Group) → Each (GoesFor p test) groups
     → flat_map (kept_group test) (flat_map (kept_group p) groups) ≡ flat_map (kept_group test) groups
-kept_all-twice p test groups h = search (flat_map-twice, flat_map-same_each, weaker-Each, kept-twice)
+kept_all-twice p test groups h = search (flat_map-twice, flat_map-same, weaker-Each, kept-twice)
 
 freed_all-twice : (p test : Instance → Bool) (groups : List Group) → Each (GoesFor p test) groups → flat_map (kept_group test) (flat_map (freed_groups p) groups) ≡ []
 freed_all-twice p test groups h = grind (arith, flat_map-twice, flat_map-empty, weaker-Each, freed-twice)
@@ -279,7 +271,7 @@ id-implies b false m n e h k = absurd (omega (arith, e, h, ap as_number k))
 
 dropped-whole : (test : Instance → Bool) (ids : List ℕ) (l : Lists) → AllWhole test l → InLists (λ i. StandsAs ids i (test i)) l
     → in_turn (λ id. without (has_id id)) ids l ≡ without test l
-dropped-whole test [] l whole stands = grind (arith, none-goes, weaker-in, StandsAs, not_passed, plus-none, as_number)
+dropped-whole test [] l whole stands = grind (arith, none-goes, weaker-in, StandsAs, not_passed, as_number)
 dropped-whole test (id ∷ ids) l whole stands =
     let counted : (i : Instance) → count_by (λ n. i.id == n) (id ∷ ids) ≡ as_number (has_id id i) + count_by (λ n. i.id == n) ids = λ i. count-cons (λ n. i.id == n) id ids in
     let implies : InLists (Implies (has_id id) test) l

@@ -10,7 +10,7 @@ use Rattle.perf_base.specs.declared.attr.CpuSel.TheVariants as cpus
 use Rattle.perf_base.specs.declared.standing.Context.TheVariants as context
 use Rattle.stage_spec.specs.{declared.instance.{Instance.{Instance}, TaskState.{TaskState}}, Flags.{is_pinned}, Hardware.{Hardware}}
 use Rattle.stage_spec.specs.Places.{is_same_task, is_same_cpu}
-use Rattle.stage_spec.specs.Stage.{Stage, Group, alone, Lists, lists_of, groups_in, no_groups, place_of, is_original, is_of_family, original_of, all_instances, status_of, is_live, was_used}
+use Rattle.stage_spec.specs.Stage.{Stage, alone, Lists, lists_of, groups_in, no_groups, place_of, is_original, is_of_family, original_of, all_instances, status_of, is_live, was_used}
 use Rattle.stage_spec.specs.Opening.{is_used, placed, add_group, join_lists, new_original, names_no_task}
 use Rattle.stage_spec.proofs.{Each.{none-Each, cons-Each, InLists, no_groups-In}, Contexts.{At, At-from_each, both-At, change_context-at, map-at}}
 use Rattle.stage_spec.proofs.Inside.{weaker-in, both-in, add_group-in, join_lists-in, InStage-from_all}

@@ -1,5 +1,5 @@
 -- A slot that has no original has no copy either, through each change of the stage.
-use Rattle.std.specs.Prelude.{◌≡◌, ℕ, ◌<◌, ◌≤◌, Bool, true, false, not, ◌&&◌, length, cond, Option, Some, None}
+use Rattle.std.specs.Prelude.{◌≡◌, ℕ, ◌<◌, ◌≤◌, Bool, true, false, not, ◌&&◌, length, cond, Option}
 use Rattle.std.proofs.{Common.{refl, sym, ◌∙◌, arith, inl, inr}, lemmas.Bool.{cases_eq, eqb-true}}
 use Rattle.perf_base.specs.{declared.{numbers.{CpuNo.{CpuNo}, EventNo.{EventNo}, TaskNo.{TaskNo}}, attr.Attr.{Attr}}, Contexts.{context_of}}
 use Rattle.perf_base.specs.declared.standing.Context.TheVariants as context
@@ -8,7 +8,7 @@ use Rattle.stage_spec.specs.Stage.{Stage, Lists, lists_of, groups_in, members, n
 use Rattle.stage_spec.specs.{Verdict.{task_lists}, Settle.{settle_all}, Opening.{opened}, Closing.{closed}, Rotation.{rotated}}
 use Rattle.stage_spec.specs.{Forks.{forked}, Exits.{exited}, Switching.{switched}}
 use Rattle.stage_laws.proofs.Totals.{total-none, one_if}
-use Rattle.stage_laws.proofs.Weights.{weigh, lists_weight, no_groups-weigh, lists-weigh, weigh-is-total, weight_in-le, lists-same, weigh-same, change_each-keeps, settle_all-weighs, switched-weighs, rotated-weighs, if_stays, if_goes, closed-weighs, closed-le, exited-weighs, exited-le}
+use Rattle.stage_laws.proofs.Weights.{weigh, lists_weight, lists-weigh, weigh-is-total, lists-same, weigh-same, change_each-keeps, settle_all-weighs, switched-weighs, rotated-weighs, if_stays, if_goes, closed-weighs, closed-le, exited-weighs, exited-le}
 use Rattle.stage_laws.proofs.Gains.{groups_joined, opened-weighs, copied-weighs, inherited_weight-le, forked-weighs, forked-le}
 use Rattle.stage_laws.proofs.Numbered.{task_lists-le}
 

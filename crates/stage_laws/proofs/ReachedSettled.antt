@@ -1,7 +1,7 @@
 -- Every stage that lines lead to is settled.
-use Rattle.std.specs.Prelude.{◌≡◌, ℕ, All, List, [], ◌∷◌, replicate, Option, Some, None, slice_index_or}
-use Rattle.std.proofs.{Common.{arith, refl, ap, ◌∙◌}, lemmas.List.{get_or-replicate, get_or_past, length-replicate}}
-use Rattle.std.proofs.lemmas.{List.Elements.{All-head, All-tail}, Bool.{cases_lt}}
+use Rattle.std.specs.Prelude.{◌≡◌, ℕ, All, List, [], ◌∷◌, Option, Some, None}
+use Rattle.std.proofs.{Common.{refl, ap, ◌∙◌}}
+use Rattle.std.proofs.lemmas.{List.Elements.{All-head, All-tail}}
 use Rattle.perf_base.specs.declared.{numbers.{CpuNo.{CpuNo}, TaskNo.{TaskNo}}, standing.Context.{Context}}
 use Rattle.perf_base.specs.declared.standing.Context.TheVariants as context
 use Rattle.stage_spec.specs.{Hardware.{Hardware}, Stage.{Stage, lists_of, no_groups, place_of, task_on, first_stage}, Verdict.{Judged}}

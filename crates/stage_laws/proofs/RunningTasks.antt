@@ -7,8 +7,8 @@ use Rattle.perf_base.specs.declared.reasons.Reason.{Reason}
 use Rattle.perf_base.specs.declared.lines.CpuLine.TheVariants as cpu_line
 use Rattle.perf_base.specs.declared.lines.ToolLine.TheVariants as tool_line
 use Rattle.perf_base.specs.declared.reasons.Reason.TheVariants as reason
-use Rattle.stage_spec.specs.{declared.instance.TaskState.{TaskState}, Hardware.{Hardware}, Refusals.{holds_of}}
-use Rattle.stage_spec.specs.Stage.{Stage, status_of, is_live, was_used, task_on, cpu_of, set_status, set_running, first_stage}
+use Rattle.stage_spec.specs.{Hardware.{Hardware}, Refusals.{holds_of}}
+use Rattle.stage_spec.specs.Stage.{Stage, status_of, is_live, task_on, cpu_of, set_status, set_running, first_stage}
 use Rattle.stage_spec.specs.{Settle.{settle, settle_each, settle_all}, Opening.{opened}, Commands.{command_each, with_period}}
 use Rattle.stage_spec.specs.{Mapping.{mapped_to, output_to}, Closing.{closed}, Switching.{switched, switch_refusal, put_on, is_running}}
 use Rattle.stage_spec.specs.{Rotation.{rotated}, Forks.{fork_refusal, forked}, Exits.{exited, exited_by}}

@@ -3,10 +3,11 @@ use Rattle.std.specs.Prelude.{◌≡◌, ℕ, zero, suc, ◌<◌, ◌==◌, Bool
 use Rattle.std.{specs.Option.{option_or, unwrap_or}, proofs.Common.{arith, refl, sym, ap, ◌∙◌, inl, inr, get_or-set_same, get_or-set_other}}
 use Rattle.std.proofs.lemmas.{Bool.{cases_Bool, cases_lt, Decides.{nat_tests}}, Option.{none-some}, List.{map-append, get_or_past}}
 use Rattle.std.proofs.{lemmas.List.Folds.{find-append}, Math.Seq.{set_out}}
-use Rattle.perf_base.specs.declared.{numbers.{CpuNo.{CpuNo}, TaskNo.{TaskNo}}, reasons.Reason.{Reason}}
+use Rattle.perf_base.specs.declared.{numbers.{CpuNo.{CpuNo}, TaskNo.{TaskNo}}, reasons.Reason.{Reason}, standing.Context.{Context}}
+use Rattle.perf_base.specs.declared.standing.Context.TheVariants as context
 use Rattle.stage_spec.specs.{declared.instance.TaskStatus.{TaskStatus}, Numbers.{numbers_below}, Refusals.{first_of, holds_of}}
 use Rattle.stage_spec.specs.Stage.{Stage, status_of, is_live, task_on, is_on_cpu, cpu_of, is_task, set_status, set_running, unknown_task}
-use Rattle.stage_laws.specs.Sound.{AreRunning}
+use Rattle.stage_laws.specs.{Narrowing.{has_context}, Sound.{AreRunning}}
 use Rattle.stage_spec.proofs.Present.{find-passes}
 
 -- where no reason holds, the first doesn't, nor any after it
@@ -24,6 +25,11 @@ task_on-same s cpu to low = get_or-set_same s.running cpu.0 to None low
 
 pub task_on-other : (s : Stage) (cpu other : CpuNo) (to : Option TaskNo) → (other.0 ≡ cpu.0 → ⊥) → task_on (set_running cpu to s) other ≡ task_on s other
 task_on-other s cpu other to apart = get_or-set_other s.running cpu.0 other.0 to None apart
+
+-- a processor has the context of the task on it, and its own
+pub has-same : (s t : Stage) (cpu : CpuNo) (c : Context) → task_on t cpu ≡ task_on s cpu → has_context t cpu c ≡ has_context s cpu c
+has-same s t cpu (context.Processor own) same = refl
+has-same s t cpu (context.Task task) same = ap (λ o. is_task o task) same
 
 -- where a task stands after one's status was set
 pub status_of-same : (s : Stage) (task : TaskNo) (status : TaskStatus) → task.0 < length s.tasks → status_of (set_status task status s) task ≡ status

@@ -1,5 +1,6 @@
 -- What holds of each instance of a stage, through the changes of lists.
-use Rattle.std.specs.Prelude.{ℕ, Bool, true, false, List, [], ◌∷◌, ◌++◌, map, filter, flat_map, replicate, zero, suc, slice_index_or, slice_set, cond}
+use Rattle.std.specs.Prelude.{◌≡◌, ℕ, Bool, true, false, List, [], ◌∷◌, ◌++◌, map, filter, flat_map, replicate, zero, suc, slice_index_or, slice_set, cond}
+use Rattle.std.proofs.Common.{refl}
 use Rattle.stage_spec.specs.{declared.instance.Instance.{Instance}, Stage.{Stage, Group, members_of, Lists, no_groups}}
 
 unfoldable pub Each : {X : Type 0} → (X → Type 0) → List X → Type 0
@@ -51,6 +52,12 @@ pub flat_map-Each : {X Y : Type 0} (P : X → Type 0) (Q : Y → Type 0) (f : X 
 unfolding Each
 flat_map-Each P Q f k [] h = tt
 flat_map-Each P Q f k (x ∷ xs) h = append-Each Q (f x) (flat_map f xs) (k x h.0) (flat_map-Each P Q f k xs h.1)
+
+-- functions that give the same of each element
+pub flat_map-same : {X Y : Type 0} (f g : X → List Y) (xs : List X) → Each (λ x. f x ≡ g x) xs → flat_map f xs ≡ flat_map g xs
+unfolding Each
+flat_map-same f g [] h = refl
+flat_map-same f g (x ∷ xs) h = rw (h.0, flat_map-same f g xs h.1) refl
 
 pub replicate-Each : {X : Type 0} (P : X → Type 0) (n : ℕ) (x : X) → P x → Each P (replicate n x)
 unfolding Each

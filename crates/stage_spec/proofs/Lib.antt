@@ -4,6 +4,7 @@ pub mod Carried
 pub mod Contexts
 pub mod Drawn
 pub mod Each
+pub mod Fits
 pub mod Ids
 pub mod Inside
 pub mod Machines
@@ -14,3 +15,4 @@ pub mod Remainders
 pub mod Settled
 pub mod Settling
 pub mod Shape
+pub mod Tables

@@ -1,8 +1,9 @@
 -- What one more step adds to a history.
 use Rattle.std.specs.Prelude.{◌≡◌, ℕ, ◌+◌, Bool, true, false, ◌||◌, List, [], ◌∷◌, ◌++◌, if◌then◌else◌}
-use Rattle.std.proofs.Common.{arith, refl, sym, ◌∙◌, append_assoc, append-nil}
-use Rattle.perf_base.specs.declared.{numbers.EventNo.{EventNo}, reply.Sums.{Sums}}
-use Rattle.stage_spec.specs.{Hardware.{Hardware}, Stage.{Stage}, History.{Step, stage_step, stage_after}, Shares.{share, no_sums}}
+use Rattle.std.proofs.Common.{arith, refl, sym, ap, ◌∙◌, append_assoc, append-nil}
+use Rattle.perf_base.specs.{declared.{acts.Act.{Act}, numbers.EventNo.{EventNo}, reply.Sums.{Sums}}, Scripts.{Scripted}}
+use Rattle.perf_base.proofs.FlatMaps.{flat_map_after-push}
+use Rattle.stage_spec.specs.{Hardware.{Hardware}, Stage.{Stage}, History.{Step, stage_step, stage_after, steps_from, steps_of}, Shares.{share, no_sums}}
 use Rattle.stage_spec.specs.Sums.{resets, is_reset_by, count_of, enabled_of, running_of, sums_of}
 use Rattle.stage_spec.specs.{Families.{plus, plus_each, leaving, folded_from, folded_of}, Recurrence.{after_reset, StageLaw, SumsLaw, FoldedLaw}}
 
@@ -10,6 +11,10 @@ pub stage_after-push : StageLaw
 unfolding stage_after
 stage_after-push hw s [] x = refl
 stage_after-push hw s (y ∷ steps) x = stage_after-push hw (stage_step hw s y) steps x
+
+pub steps-push : (s : Scripted) (before acts : List Act) (a : Act) → steps_from s before (acts ++ a ∷ []) ≡ steps_from s before acts ++ steps_of s (before ++ acts) a
+unfolding steps_from
+steps-push s before acts a = flat_map_after-push (steps_of s) before acts a
 
 or-assoc : (a b c : Bool) → (a || (b || c)) ≡ ((a || b) || c)
 or-assoc true b c = refl

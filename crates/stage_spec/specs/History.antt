@@ -2,6 +2,7 @@
 -- The lines that were done, and the stage that they leave. This project's own profile, after the calls of
 -- perf_event_open(2), the scheduler's calls of kernel/events/core.c, and its tick.
 use Rattle.std.specs.Prelude.{ℕ, List, [], ◌∷◌, ◌++◌, Option, Some, None}
+use Rattle.perf_base.specs.FlatMaps.{flat_map_after}
 use Rattle.perf_base.specs.declared.{numbers.{CpuNo.{CpuNo}, RingNo.{RingNo}}, lines.{CpuLine.{CpuLine}, ToolLine.{ToolLine}}, acts.Act.{Act}}
 use Rattle.perf_base.specs.{declared.reasons.Reason.{Reason}, Scripts.{Scripted}}
 use Rattle.perf_base.specs.declared.lines.CpuLine.TheVariants as cpu_line
@@ -93,8 +94,7 @@ steps_of s before (act.Seen ring place) = SeenStep ring place ∷ []
 
 -- the steps of acts, the first of them after some acts
 unfoldable pub steps_from : Scripted → List Act → List Act → List Step
-steps_from s before [] = []
-steps_from s before (a ∷ acts) = steps_of s before a ++ steps_from s (before ++ a ∷ []) acts
+steps_from s before acts = flat_map_after (steps_of s) before acts
 
 -- the steps of an order of a script, and the stage before them
 abbrev pub history : Scripted → List Act → List Step

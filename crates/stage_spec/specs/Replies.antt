@@ -2,6 +2,7 @@
 -- The answer to a line. After perf_event_open(2); the order of reasons, and what WHY and SEATS answer, are this
 -- project's own profile.
 use Rattle.std.specs.{Prelude.{◌≡◌, ℕ, List, [], ◌∷◌, ◌++◌, map, filter, Option, Some, None}, List.{zip}}
+use Rattle.perf_base.specs.FlatMaps.{flat_map_after}
 use Rattle.perf_base.specs.declared.{numbers.{CpuNo.{CpuNo}, EventNo.{EventNo}}, lines.ToolLine.{ToolLine}, standing.{Context.{Context}, Own.{Own}}}
 use Rattle.perf_base.specs.declared.{standing.{Standing.{Standing}, Why.{Why}}, reasons.Reason.{Reason}, reply.{Answer.{Answer}, Reply.{Reply}}}
 use Rattle.perf_base.specs.{declared.{reply.Sums.{Sums}, acts.{Act.{Act}, Actor.{Actor}}}, Scripts.{Scripted}, Contexts.{context_of}}
@@ -104,8 +105,7 @@ lines_of_act before (act.Seen ring place) = []
 
 -- the lines that acts do, the first of them after some acts
 abbrev pub lines_from : (before acts : List Act) → List (Actor × ℕ)
-lines_from before [] = []
-lines_from before (a ∷ acts) = lines_of_act before a ++ lines_from (before ++ a ∷ []) acts
+lines_from before acts = flat_map_after lines_of_act before acts
 
 -- The answers to the acts of an order of a script: one to each line that is done, in their order.
 pub record AnswerOrder (s : Scripted) (lost : List Step → EventNo → ℕ) (order : List Act) (answers : List Answer) : Type 0 where

@@ -80,10 +80,14 @@ abbrev pub migration_share : Hardware → Bool → Stage → CpuNo → ℕ → �
 migration_share hw true after cpu id = of_instance migration_hits id (on_instances hw after cpu)
 migration_share hw false after cpu id = 0
 
+-- the stage after a switch
+abbrev pub switched_stage : Hardware → Stage → CpuNo → Option TaskNo → Stage
+switched_stage hw s cpu to = stage_step hw s (CpuStep cpu (cpu_line.Switch to))
+
 abbrev pub switch_share : Hardware → Stage → CpuNo → Option TaskNo → ℕ → Sums
-switch_share hw s cpu to id = record no_sums {
-  count = of_instance switch_hits id (on_instances hw s cpu)
-      + migration_share hw (is_migration s cpu to) (stage_step hw s (CpuStep cpu (cpu_line.Switch to))) cpu id;
+switch_share hw before cpu to id = record no_sums {
+  count = of_instance switch_hits id (on_instances hw before cpu)
+      + migration_share hw (is_migration before cpu to) (switched_stage hw before cpu to) cpu id;
 }
 
 -- a switch that is refused, or to what already runs there, adds nothing

@@ -18,26 +18,7 @@ open-more n s acts = ap (filter (is_open (stage_in s acts))) (ap slots_below one
     one : n + 1 ≡ suc n
     one = omega arith
 
--- what a slot's event has counted is there where the slot is open, and nowhere else
-some-by : (b : Bool) (x y : Sums) → Some x ≡ (if b then Some y else None) → (b ≡ true) × (x ≡ y)
-some-by true x y is = (refl, ap (sums_or x) is)
-  where
-    sums_or : Sums → Option Sums → Sums
-    sums_or d None = d
-    sums_or d (Some z) = z
-some-by false x y is = absurd (cc)
-
-none-by : (b : Bool) (y : Sums) → None ≡ (if b then Some y else None) → b ≡ false
-none-by true y is = absurd (cc)
-none-by false y is = refl
-
-pub some-open : (s : Scripted) (acts : List Act) (e : EventNo) (x : Sums) → Some x ≡ family_if_open s acts e → (is_open (stage_in s acts) e ≡ true) × (x ≡ family_in s acts e)
-some-open s acts e x is = some-by (is_open (stage_in s acts) e) x (family_in s acts e) is
-
-pub none-open : (s : Scripted) (acts : List Act) (e : EventNo) → None ≡ family_if_open s acts e → is_open (stage_in s acts) e ≡ false
-none-open s acts e is = none-by (is_open (stage_in s acts) e) (family_in s acts e) is
-
--- it has one where the slot is open, and none where it is not
+-- there is one more where the slot is open, and none where it is not
 pub more-rows : (n : ℕ) (s : Scripted) (acts : List Act) (b : Bool) (rows : List StatRow) → is_open (stage_in s acts) (slot n) ≡ b
     → rows ≡ map (row_of s acts) (open_below n s acts)
     → rows ++ cond b (row_of s acts (slot n) ∷ []) [] ≡ map (row_of s acts) (open_below (n + 1) s acts)

@@ -1,31 +1,23 @@
 -- The rotation of a tick by both contexts, what it turns, and that other processors stand as they stood.
-use Rattle.std.specs.Prelude.{◌≡◌, ◌≢◌, ◌<◌, ◌==◌, true, false, [], ◌∷◌, map, filter, Option, Some, None, slice_index_or, nat_lt, if◌then◌else◌}
-use Rattle.std.{specs.{FinMap.{get}, Option.{unwrap_or}}, proofs.Common.{arith, refl, sym, ap, subst, ◌∙◌, inl, inr}}
-use Rattle.std.proofs.lemmas.{Bool.{cases_lt, false≢true, Decides.{nat_tests}}, List.{get_or_past, get_or-set_other}}
+use Rattle.std.specs.Prelude.{◌≡◌, ◌≢◌, ◌<◌, ◌==◌, true, false, [], ◌∷◌, map, filter, Option, Some, None, slice_index_or}
+use Rattle.std.{specs.{FinMap.{get}, Option.{unwrap_or}}, proofs.Common.{arith, refl, sym, ap, subst, ◌∙◌}}
+use Rattle.std.proofs.lemmas.{Bool.{Decides.{nat_tests}}, List.{get_or-set_other}}
 use Rattle.perf_base.specs.declared.{numbers.{CpuNo.{CpuNo}, Key.{Key}, TaskNo.{TaskNo}}, standing.Context.{Context}}
 use Rattle.perf_base.specs.declared.standing.Context.TheVariants as context
 use Rattle.perf_base.specs.declared.standing.Standing.TheVariants as standing
 use Rattle.stage_spec.specs.{Hardware.{Hardware}, Rotation.{turn_task, rotated}}
-use Rattle.stage_spec.specs.{Stage.{Stage, place_of, task_on, status_of, unknown_task, is_live, is_task}, History.{stage_step}}
+use Rattle.stage_spec.specs.{Stage.{Stage, place_of, task_on, is_task}, History.{stage_step}}
 use Rattle.stage_spec.specs.Verdict.{is_eligible, passes, verdicts}
 use Rattle.stage_laws.specs.{Narrowing.{has_context}, Standings.{brief_of}, Turns.{flexible_of, is_waiting, ticked, IsTurned}}
 use Rattle.stage_laws.proofs.Turns.{tick_turns, settle_all-flexible}
 use Rattle.counter_match.specs.Seating.{empty_seating}
 use Rattle.world_spec.specs.{Kept.{post_at, leads, IsKept}, Listings.{pass_leaders, task_leaders}, Rescheduled.{IsJudged, IsUntouched}}
 use Rattle.world_spec.{specs.{StageOf.{group_at, stage_of}, Value.{World, no_leaders, leaders_of, entry_at, times}}, proofs.Listings.{passes-are}}
-use Rattle.world_spec.proofs.Standing.{left-untouched}
+use Rattle.world_spec.proofs.{Placing.{task-low}, Standing.{left-untouched}}
 use Rattle.task_moves.{specs.Turning.{turn_keys, turn_in, turn_of_task, turned_world}, proofs.Turning.{turn-stage, flexible-once, waits-same}}
 use Rattle.stage_spec.proofs.Settled.{place_of-cpu}
 
 -- a processor's place, and a task's
-pub task-low : (hw : Hardware) (w : World) (cpu : CpuNo) (task : TaskNo) → IsKept hw w → task_on (stage_of w) cpu ≡ Some task → task.0 < 64
-task-low hw w cpu task h on = elim (cases_lt task.0 64) [
-  | inl low ↦ low
-  | inr past ↦
-      let unknown : status_of (stage_of w) task ≡ unknown_task = get_or_past w.quiet.tasks task.0 unknown_task (omega (arith, past, h.shape.tasks)) in
-      absurd (false≢true (ap (λ s. is_live s.state) (sym unknown) ∙ h.running.live cpu task on))
-]
-
 is-own : (cpu : CpuNo) → (cpu.0 == cpu.0) ≡ true
 is-own cpu = grind (arith, nat_tests)
 

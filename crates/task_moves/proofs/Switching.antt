@@ -7,10 +7,10 @@ use Rattle.perf_base.specs.declared.reasons.Reason.TheVariants as reason
 use Rattle.perf_base.specs.declared.standing.Context.TheVariants as context
 use Rattle.perf_base.specs.declared.standing.Standing.TheVariants as standing
 use Rattle.stage_spec.specs.{Hardware.{Hardware}, Refusals.{first_of, holds_of}}
-use Rattle.stage_spec.specs.{Stage.{Stage, lists_of, task_on, cpu_of, status_of, is_live, is_task}, declared.instance.TaskState.{TaskState}}
+use Rattle.stage_spec.specs.{Stage.{Stage, lists_of, task_on, cpu_of, status_of, is_live}, declared.instance.TaskState.{TaskState}}
 use Rattle.stage_spec.specs.{Switching.{is_running, switch_refusal, put_on, switched}, Verdict.{is_eligible, passes, task_lists}}
 use Rattle.stage_spec.specs.declared.instance.TaskState.TheVariants as state
-use Rattle.stage_laws.{specs.{Narrowing.{has_context}, Standings.{brief_of}}, proofs.Tasks.{free-task}}
+use Rattle.stage_laws.{specs.{Narrowing.{has_context}, Standings.{brief_of}}, proofs.Tasks.{free-task, has-same}}
 use Rattle.counter_match.specs.Seating.{empty_seating}
 use Rattle.world_spec.specs.{Changes.{place}, Kept.{post_at, leads, IsKept}, Laws.{IsFree}, Rescheduled.{IsUntouched}, StageOf.{group_at, stage_of}}
 use Rattle.world_spec.{specs.Value.{World, entry_at}, proofs.Standing.{left-untouched}}
@@ -57,10 +57,6 @@ placed-only cpu None w = record { entries = refl; standings = refl; contexts = r
 placed-only cpu (Some task) w = record { entries = refl; standings = refl; contexts = refl; seats = refl }
 
 -- Another processor runs what it ran, and stands as it stood.
-has-same : (s t : Stage) (cpu : CpuNo) (c : Context) → task_on t cpu ≡ task_on s cpu → has_context t cpu c ≡ has_context s cpu c
-has-same s t cpu (context.Processor own) same = refl
-has-same s t cpu (context.Task task) same = ap (λ o. is_task o task) same
-
 passes-same : (w x : World) (other : CpuNo) → IsPlacedOnly w x → task_on (stage_of x) other ≡ task_on (stage_of w) other → passes (stage_of x) other ≡ passes (stage_of w) other
 passes-same w x other only on =
     let lists : (c : Context) → lists_of (stage_of x) c ≡ lists_of (stage_of w) c = λ c. λ i. lists_of (stage_of (record w { entries = only.entries i; contexts = only.contexts i })) c in

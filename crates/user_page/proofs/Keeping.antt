@@ -4,7 +4,8 @@ use mathlib.Core.{Option.{Option, some}, List.{IsPrefix}}
 use lib.ListN.{get_elem?}
 use Rattle.atomic_table.{specs.Table.{State}, proofs.Lists.{at_set, at_snoc}}
 use Rattle.user_page.specs.{declared.{look.Look.{Look}, view.View.{View}}, Views.{Place, IsWriter, IsWatcher, IsNote}, Rule.{Laid, Begins, Kept}}
-use Rattle.user_page.proofs.{Lists.{prefix_self, prefix_through}, Only.{only_is, only_stays, only_other, only_more}}
+use Rattle.perf_base.proofs.Prefixes.{prefix_self, prefix_through}
+use Rattle.user_page.proofs.{Only.{only_is, only_stays, only_other, only_more}}
 
 abbrev pub Table : Type 0
 Table = State Place View

@@ -1,30 +1,19 @@
--- Beginnings of lists, the last entry, and lists that never fall.
-use Rattle.std.proofs.Common.{◌≡◌, ℕ, zero, suc, ◌-◌, ◌<◌, ◌≤◌, List, [], ◌∷◌, ◌++◌, length, get_or, slice_get, Option, IfSome, None, Some, refl, sym, ap, ◌∙◌, subst, ⊎_elim, append_assoc, append-nil, length-append, eq-or-lt_of_le, arith}
+-- Lists of which each begins the other, the last entry, and lists that never fall.
+use Rattle.std.proofs.Common.{◌≡◌, ℕ, zero, suc, ◌-◌, ◌<◌, ◌≤◌, List, [], ◌∷◌, ◌++◌, length, get_or, slice_get, Option, IfSome, None, Some, refl, sym, ap, ◌∙◌, subst, ⊎_elim, append-nil, length-append, eq-or-lt_of_le, arith}
 use Rattle.std.proofs.lemmas.{Option.{slice_get-get_or}, List.Quantifiers.{all_pairs_push}}
 use mathlib.Core.{Option.{some, some-ne-none}, List.{IsPrefix}}
 use lib.ListN.{get_elem?}
+use Rattle.perf_base.proofs.Prefixes.{length-prefix}
 use Rattle.user_page.specs.{declared.look.Look.{Look}, Looks.{last_look, MayFollow, NeverFalls, IsLookList}}
 
 module _ {A : Type 0} where
-  pub prefix_self : (xs : List A) → IsPrefix xs xs
-  prefix_self xs = ([], append-nil xs)
-
-  pub prefix_more : (xs ys zs : List A) → IsPrefix xs ys → IsPrefix xs (ys ++ zs)
-  prefix_more xs ys zs p = (p.0 ++ zs, sym (append_assoc xs p.0 zs) ∙ ap (λ (l : List A). l ++ zs) p.1)
-
-  pub prefix_through : (xs ys zs : List A) → IsPrefix xs ys → IsPrefix ys zs → IsPrefix xs zs
-  prefix_through xs ys zs p q = let P : List A → Type 0 = λ l. IsPrefix xs l in subst P q.1 (prefix_more xs ys q.0 p)
-
-  prefix_length : (xs ys : List A) → IsPrefix xs ys → length xs ≤ length ys
-  prefix_length xs ys p = omega (arith, length-append xs p.0, ap length p.1)
-
   prefix_whole : (xs rest ys : List A) → xs ++ rest ≡ ys → length ys ≤ length xs → xs ≡ ys
   prefix_whole xs [] ys e h = sym (append-nil xs) ∙ e
   prefix_whole xs (x ∷ rest) ys e h = absurd (omega (arith, h, ap length e, length-append xs (x ∷ rest)))
 
   -- of two lists each begins the other: they are one
   pub prefix_both : (xs ys : List A) → IsPrefix xs ys → IsPrefix ys xs → xs ≡ ys
-  prefix_both xs ys p q = prefix_whole xs p.0 ys p.1 (prefix_length ys xs q)
+  prefix_both xs ys p q = prefix_whole xs p.0 ys p.1 (length-prefix ys xs q)
 
   pub at_within : (l : List A) (i : ℕ) (a : A) → get_elem? l i ≡ some a → i < length l
   at_within [] i a at = absurd (some-ne-none a (sym at))

@@ -5,7 +5,8 @@ use lib.ListN.{get_elem?}
 use Rattle.atomic_table.{specs.Table.{Splits, Joins, opening}, proofs.Lists.{at_set, at_snoc, set_again, set_else}}
 use Rattle.user_page.specs.{declared.{look.Look.{Look}, view.View.{View}}, Looks.{zero_look}}
 use Rattle.user_page.specs.Views.{Place, IsWriter, IsWatcher, IsNote, both_ends, writer_of, watcher_of, note_of, spent, informed}
-use Rattle.user_page.{specs.Rule.{Laid, IsOnly, Begins, Kept}, proofs.{Lists.{prefix_self}, Only.{only_stays, only_goes, only_more}}}
+use Rattle.user_page.{specs.Rule.{Laid, IsOnly, Begins, Kept}, proofs.Only.{only_stays, only_goes, only_more}}
+use Rattle.perf_base.proofs.Prefixes.{prefix_self}
 use Rattle.user_page.proofs.Keeping.{after, is_writer, is_watcher, laid_writer, laid_watcher, writer_keeps, watcher_keeps, note_keeps, note_comes}
 use Rattle.user_page.proofs.Stepping.{laid_as}
 

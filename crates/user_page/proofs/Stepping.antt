@@ -8,7 +8,8 @@ use Rattle.crossbeam_utils.specs.Padded.{padded_value}
 use Rattle.user_page.specs.{declared.view.View.{View}, Looks.{last_look, MayFollow, NeverFalls}}
 use Rattle.user_page.specs.Views.{Place, Holder, IsWriter, IsWatcher, WriterSits, WatcherSits, IsUnplacedWriter, IsUnplacedWatcher, held_look, published, looked, checked}
 use Rattle.user_page.specs.{Rule.{IsHome, Laid, Begins, Kept}, Steps.{PlacesWriter, PlacesWatcher, Publishes, TakesNewest, ChecksNote}}
-use Rattle.user_page.proofs.{Lists.{prefix_self, prefix_more, last_added, rises_more}, Only.{clash}}
+use Rattle.perf_base.proofs.Prefixes.{prefix_self, prefix_more}
+use Rattle.user_page.proofs.{Lists.{last_added, rises_more}, Only.{clash}}
 use Rattle.user_page.proofs.Keeping.{is_writer, laid_writer, laid_watcher, writer_keeps, watcher_keeps}
 
 -- the places at home, after one is given back and another taken

@@ -7,18 +7,12 @@ use Rattle.stage_spec.{specs.History.{CpuStep}, proofs.Each.{Each, head-Each, ta
 use Rattle.stage_laws.proofs.{Counts.{count-append, count-cons}, Totals.{as_number}}
 use Rattle.ring_spec.specs.{Account.{Account, Sends, send, ring_step, lost_by, lost_among, is_event, need_of, room_of}, Records.{IsRecord}}
 use Rattle.ring_spec.specs.{Rings.{is_to, sends_to}, Running.{RingAccount, ring_after, losses_on, more_lost}, Sending.{SentSample}}
+use Rattle.ring_spec.proofs.Sizes.{IsSized, AreSized}
 use Rattle.ring_spec.specs.Account as account
 use Rattle.ring_words.specs.Ends.{Ring}
 use Rattle.sample_ring.specs.{OutEnds.{OutEnd, HasAccount}, Sends.{Request, request_of, records_for, sent_to, written_to, lost_to, fits}}
 use Rattle.sample_ring.proofs.Sending.{account_sent, lawful-both}
 use Rattle.work_account.specs.Ends.{Ends, sent_among, loses_among, count_lost, send_next, send_all, IsAccountOf, AreAccounts, HaveAccounts}
-
--- a sample has at most 8 fields, and a trailer at most 6 words
-abbrev pub IsSized : SentSample → Type 0
-IsSized sent = (length sent.body ≤ 8) × (length sent.trailer ≤ 6)
-
-abbrev pub AreSized : List (RingNo × SentSample) → Type 0
-AreSized sents = Each (λ (sent : RingNo × SentSample). IsSized sent.1) sents
 
 lawful : (o : OutEnd) (s : SentSample) → IsSized s → All IsRecord (records_for o (request_of s))
 lawful o s z = lawful-both o.pending _ _ z.1 z.0

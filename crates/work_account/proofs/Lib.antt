@@ -10,7 +10,6 @@ pub mod Sends
 pub mod Sent
 pub mod Sequences
 pub mod Shared
-pub mod Sized
 pub mod Skipped
 mod Space
 pub mod Steps

@@ -1,6 +1,6 @@
 -- What a processor's instances that take work, or an occurrence, may be hit by.
 use Rattle.std.specs.Prelude.{◌≡◌, ℕ, zero, suc, ◌+◌, ◌^◌, ◌<◌, ◌≤◌, ◌==◌, Bool, true, false, not, ◌&&◌, List, [], ◌∷◌, length, map, filter, count_by, slice_index_or, if◌then◌else◌}
-use Rattle.std.proofs.{Common.{arith, refl, sym, ap, subst, ◌∙◌, inl, inr}, lemmas.Bool.{cases_Bool, false≢true}}
+use Rattle.std.proofs.{Common.{arith, refl, sym, ap, subst, ◌∙◌, inl, inr}, lemmas.Bool.{and_parts, cases_Bool, false≢true}}
 use Rattle.perf_base.specs.declared.{attr.Kind.{Kind}, lines.Work.{Work}, numbers.{CpuNo.{CpuNo}, Key.{Key}}, reply.Sums.{Sums}}
 use Rattle.perf_base.specs.declared.attr.Kind.TheVariants as kind
 use Rattle.perf_base.specs.declared.lines.CpuLine.TheVariants as cpu_line
@@ -18,10 +18,6 @@ use Rattle.work_account.specs.declared.happening.Happening.TheVariants as happen
 use Rattle.stage_laws.proofs.BoundsStep.{counted-le}
 
 -- none of those that take it goes along totals
-both-true : (a b : Bool) → (a && b) ≡ true → (a ≡ true) × (b ≡ true)
-both-true true b h = (refl, h)
-both-true false b h = absurd (false≢true h)
-
 last-off : (a b : Bool) → not b ≡ true → (a && b) ≡ false
 last-off true true h = absurd (false≢true h)
 last-off true false h = refl
@@ -71,7 +67,7 @@ module _ (x : Happening) (w : World) (cpu : CpuNo) (h : IsKept w.hardware w) whe
         let k : Key = found.0 in
         let among : 1 ≤ times k (keys_by_pass w cpu) = chosen-some (takes x w) (keys_by_pass w cpu) k found.1 in
         let live : is_live w k ≡ true = keys-live w.hardware w cpu h k among in
-        let both = both-true (is_hit_by x (instance_at w k)) (is_on w k) (chosen-passes (takes x w) (keys_by_pass w cpu) k found.1) in
+        let both = and_parts (is_hit_by x (instance_at w k)) (is_on w k) (chosen-passes (takes x w) (keys_by_pass w cpu) k found.1) in
         subst (MayHit w) (sym found.2) (record {
           live = live;
           alone = λ other on. hit-apart x (instance_at w k) both.0;

@@ -1,21 +1,22 @@
 -- The records of the overflows that a stretch of work gives are those of the definitions, and what is left once they
 -- were sent.
-use Rattle.std.specs.Prelude.{◌≡◌, ℕ, zero, suc, ◌+◌, ◌==◌, not, ◌&&◌, ◌<◌, ◌≤◌, Bool, true, false, cond, List, [], ◌∷◌, ◌++◌, length, map, filter, flat_map, slice_index_or, Option, Some, None}
-use Rattle.std.proofs.{Common.{arith, refl, sym, ap, subst, ◌∙◌}, lemmas.{Bool.{false≢true}, List.{get_or-set_same}}}
+use Rattle.std.specs.Prelude.{◌≡◌, ℕ, ◌+◌, ◌==◌, ◌&&◌, ◌<◌, ◌≤◌, Bool, true, false, cond, List, [], ◌∷◌, ◌++◌, length, map, filter, flat_map, slice_index_or, Option, Some, None}
+use Rattle.std.proofs.{Common.{arith, refl, sym, ap, subst, ◌∙◌}, lemmas.{Bool.{not-false}, List.{get_or-set_same}}}
 use Rattle.perf_base.specs.declared.{lines.Work.{Work}, numbers.{CpuNo.{CpuNo}, EventNo.{EventNo}, Key.{Key}, RingNo.{RingNo}}}
 use Rattle.perf_base.specs.declared.lines.CpuLine.TheVariants as cpu_line
-use Rattle.stage_spec.specs.{declared.instance.Instance.{Instance}, History.{CpuStep}, Occurrences.{left_after_one, overflows}, Shares.{work_hits}}
+use Rattle.stage_spec.specs.{declared.instance.Instance.{Instance}, History.{CpuStep}, Occurrences.{overflows}, Shares.{work_hits}}
 use Rattle.stage_spec.specs.{Stage.{original_of}, Verdict.{on_instances}}
 use Rattle.ring_spec.specs.{Running.{RingAccount, ring_after, losses_on, more_lost}, Sending.{SentSample, to_ring, sent_by_family, overflows_by}}
 use Rattle.sample_ring.specs.RingLists.{RingList, OutList}
 use Rattle.world_spec.specs.{Value.{World, is_live, instance_at, account_at, is_key, times}, StageOf.{stage_of}, Kept.{IsKept}, Metering.{IsWorked}}
-use Rattle.world_spec.{specs.{Rescheduled.{IsJudged}, Working.{is_on, keys_by_pass}}, proofs.{Along.{keys-live, on-keys, chosen-some}, Counting.{times-filter}}}
+use Rattle.world_spec.{specs.{Rescheduled.{IsJudged}, Working.{is_on, keys_by_pass}}, proofs.{Along.{keys-live, on-keys, chosen-some}}}
 use Rattle.world_spec.proofs.Keys.{is_key-same, times-cons, once-true}
 use Rattle.work_account.specs.declared.{overflowing.Overflow.{Overflow}, samples.Stretch.{Stretch}}
 use Rattle.work_account.specs.Ends.{Ends, AreTogether, HaveAccounts, HaveSpace, send_all}
 use Rattle.work_account.specs.Sampling.{AreLeft, HasInstance, HaveRings, HaveSpaceToSend, ends_of, sent_by, sents_of, sents_all}
-use Rattle.work_account.{specs.Visits.{samples, takes, hit_at, hits_among, overflow_of}, proofs.Accounts.{AreSized, accounts-after, lost-after}}
-use Rattle.work_account.proofs.{Sequences.{together-after}, Shared.{is-zero}, Sized.{all-sized}}
+use Rattle.work_account.{specs.Visits.{samples, takes, hit_at, hits_among, overflow_of}, proofs.Accounts.{accounts-after, lost-after}}
+use Rattle.work_account.proofs.{Sequences.{together-after}, Shared.{is-zero}}
+use Rattle.ring_spec.proofs.Sizes.{AreSized, work-sized}
 use Rattle.work_account.specs.declared.happening.Happening.TheVariants as happening
 use Rattle.ring_spec.proofs.Overflowing.{none_by}
 
@@ -25,11 +26,7 @@ nothing-to None sent = refl
 nothing-to (Some ring) sent = refl
 
 period-zero : (i : Instance) → samples i ≡ false → i.attr.period ≡ 0
-period-zero i off = is-zero i.attr.period (opposite (i.attr.period == 0) off)
-  where
-    opposite : (b : Bool) → not b ≡ false → b ≡ true
-    opposite true h = refl
-    opposite false h = absurd (false≢true (sym h))
+period-zero i off = is-zero i.attr.period (not-false (i.attr.period == 0) off)
 
 module _ (w : World) (cpu : CpuNo) (work : Work) (clock : ℕ) (left : ℕ → ℕ) where
   abbrev line : Stretch
@@ -155,7 +152,7 @@ together-are rings w new cpu work left before outs is h =
 
 -- the accounts of the ends, and the counts, after that
 sized : (w : World) (left : ℕ → ℕ) (cpu : CpuNo) (work : Work) → AreSized (sent_by w left cpu work)
-sized w left cpu work = all-sized (stage_of w) cpu work (slice_index_or w.quiet.clocks cpu.0 0 + work.length) left (on_instances w.hardware (stage_of w) cpu)
+sized w left cpu work = work-sized (stage_of w) left (slice_index_or w.quiet.clocks cpu.0 0 + work.length) cpu work (on_instances w.hardware (stage_of w) cpu)
 
 module _ (w new : World) (cpu : CpuNo) (work : Work) (left : ℕ → ℕ) (before outs : OutList) (accounts : List RingAccount)
     (is : ends_of outs new ≡ send_all (ends_of before w) (sent_by w left cpu work)) (h : HaveAccounts before accounts) where

@@ -1,10 +1,10 @@
 -- Nobody in a context takes work where none there samples.
-use Rattle.std.specs.Prelude.{◌≡◌, ◌≤◌, ◌==◌, Bool, true, false, ◌&&◌, cond, List, [], ◌∷◌, ◌++◌, map, filter}
+use Rattle.std.specs.Prelude.{◌≡◌, ◌≤◌, ◌==◌, Bool, true, false, cond, List, [], ◌∷◌, ◌++◌, map, filter}
 use Rattle.std.proofs.{Common.{arith, refl, ap, ◌∙◌}, lemmas.Bool.{false≢true, Decides.{nat_tests}}}
 use Rattle.perf_base.specs.declared.{lines.Work.{Work}, numbers.Key.{Key}, standing.Context.{Context}}
 use Rattle.stage_spec.specs.Stage.{place_of}
-use Rattle.world_spec.specs.{Value.{World, is_live, entry_at, leaders_of, times}, Kept.{once_if, IsKept}}
-use Rattle.world_spec.{proofs.{Along.{member-of}, Keys.{times-cons}}}
+use Rattle.world_spec.specs.{Value.{World, is_live, entry_at, leaders_of, times}, Kept.{IsKept}}
+use Rattle.world_spec.{proofs.{Along.{member-of, once-three}, Keys.{times-cons}}}
 use Rattle.world_tables.specs.Places.{picked}
 use Rattle.perf_world.specs.Seen.{SomeSamples}
 use Rattle.work_account.specs.declared.{happening.Happening.{Happening}, overflowing.Hit.{Hit}}
@@ -13,17 +13,12 @@ use Rattle.work_account.proofs.Reached.{stands-first}
 use Rattle.work_account.specs.declared.happening.Happening.TheVariants as happening
 
 -- who stands in the groups of a context stands in it
-placed : (lead there third : Bool) → 1 ≤ once_if (lead && there && third) → there ≡ true
-placed true true third h = refl
-placed true false third h = absurd (omega (arith, h))
-placed false there third h = absurd (omega (arith, h))
-
 listed-place : (w : World) (c : Context) (pinned : Bool) (q : Key) → IsKept w.hardware w → 1 ≤ times q (picked pinned (leaders_of w c)) → place_of (entry_at w q).context ≡ place_of c
 listed-place w c true q h some =
-    let there : (place_of (entry_at w q).context == place_of c) ≡ true = grind (arith, nat_tests, placed) in
+    let there : (place_of (entry_at w q).context == place_of c) ≡ true = grind (arith, nat_tests, once-three) in
     grind (arith, nat_tests, there)
 listed-place w c false q h some =
-    let there : (place_of (entry_at w q).context == place_of c) ≡ true = grind (arith, nat_tests, placed) in
+    let there : (place_of (entry_at w q).context == place_of c) ≡ true = grind (arith, nat_tests, once-three) in
     grind (arith, nat_tests, there)
 
 member-place : (w : World) (c : Context) (pinned : Bool) (q k : Key) → IsKept w.hardware w → 1 ≤ times q (picked pinned (leaders_of w c)) → 1 ≤ times k (members_at w q)

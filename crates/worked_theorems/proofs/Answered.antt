@@ -1,11 +1,12 @@
 -- A script whose order is answered step by step is answered as the definitions say.
 use Rattle.std.specs.Prelude.{◌≡◌, ℕ, ◌+◌, ◌==◌, nat_le, Bool, true, false, ◌&&◌, ◌||◌, List, [], ◌∷◌, ◌++◌, map, fold, find, length, take, drop, sum, Option, Some, None, option_map, unwrap_or, suc, cond}
 use Rattle.std.proofs.{Common.{arith, refl, sym, ap, ◌∙◌, inl, inr, append_assoc, append-nil, get_or}, lemmas.List.{length-append}}
-use Rattle.std.proofs.lemmas.{Option.{none-some}, Bool.{false≢true, or_cases, leb-true, Decides.{nat_tests}}}
+use Rattle.std.proofs.lemmas.{Option.{none-some}, Bool.{and_parts, false≢true, or_cases, leb-true, Decides.{nat_tests}}}
 use Rattle.perf_base.specs.{declared.{numbers.RingNo.{RingNo}, acts.Act.{Act}, reply.Reply.{Reply}}, Scripts.{Scripted}}
 use Rattle.perf_base.specs.declared.acts.Act.TheVariants as act
 use Rattle.stage_spec.specs.{Hardware.{Hardware, hardware_of}, Stage.{Stage}, Order.{IsLawfulAct, IsLawfulSeen}}
 use Rattle.stage_spec.specs.{History.{Step, CpuStep, ToolStep, SeenStep, steps_of, steps_from, history, opening_stage}, Replies.{AreReplies}}
+use Rattle.stage_spec.proofs.Recurrence.{steps-push}
 use Rattle.ring_spec.specs.{Records.{record_size}, Rings.{account_of, bytes_of, bytes_in, sizes_in, lost_count}}
 use Rattle.ring_spec.{specs.Running.{RingAccount, Running, record_after, IsAnswerBy}, proofs.Running.{IsKept, kept-step, answer_is, in_account}}
 use Rattle.ring_laws.proofs.Tails.{seen_tail}
@@ -53,19 +54,11 @@ behind_some at place (n ∷ sizes) h = elim (or_cases (at == place) (is_behind (
   | inr e ↦ behind_more at place n sizes (behind_some (at + n) place sizes e)
 ]
 
-pub and_left : (a b : Bool) → (a && b) ≡ true → a ≡ true
-and_left true b h = refl
-and_left false b h = h
-
-pub and_right : (a b : Bool) → (a && b) ≡ true → b ≡ true
-and_right true b h = h
-and_right false b h = absurd (false≢true h)
-
 pub lawful_seen : (sizes : List ℕ) (last place : ℕ) → looks_lawful sizes last place ≡ true → IsLawfulSeen sizes last place
 lawful_seen sizes last place h =
-    let some : (n : ℕ) × (place ≡ 0 + sum (take n sizes)) = behind_some 0 place sizes (and_right (nat_le last place) (is_behind 0 place sizes) h) in
+    let some : (n : ℕ) × (place ≡ 0 + sum (take n sizes)) = behind_some 0 place sizes (and_parts (nat_le last place) (is_behind 0 place sizes) h).1 in
     record {
-      above = leb-true last place (and_left (nat_le last place) (is_behind 0 place sizes) h);
+      above = leb-true last place (and_parts (nat_le last place) (is_behind 0 place sizes) h).0;
       behind = (some.0, omega (arith, some.1));
     }
 
@@ -90,16 +83,6 @@ LawfulFrom-rest hw s rings before (x ∷ steps) more h =
     let regrouped : (before ++ x ∷ []) ++ steps ≡ before ++ x ∷ steps = append_assoc before (x ∷ []) steps in
     rw (← regrouped) (LawfulFrom-rest hw s rings (before ++ x ∷ []) steps more h.1)
 
-steps_from-push : (s : Scripted) (before acts : List Act) (a : Act) → steps_from s before (acts ++ a ∷ []) ≡ steps_from s before acts ++ steps_of s (before ++ acts) a
-unfolding steps_from
-steps_from-push s before [] a = append-nil (steps_of s before a) ∙ ap (λ b. steps_of s b a) (sym (append-nil before))
-steps_from-push s before (b ∷ acts) a =
-    let regrouped : (before ++ b ∷ []) ++ acts ≡ before ++ b ∷ acts = append_assoc before (b ∷ []) acts in
-    let now : List Step = steps_of s before b in
-    let rest : List Step = steps_from s (before ++ b ∷ []) acts in
-    ap (λ xs. now ++ xs) (steps_from-push s (before ++ b ∷ []) acts a)
-    ∙ (ap (λ done. now ++ (rest ++ steps_of s done a)) regrouped ∙ sym (append_assoc now rest (steps_of s (before ++ b ∷ acts) a)))
-
 -- the first act of a lawful history is lawful
 first-lawful : (s : Scripted) (before : List Act) (a : Act) (more : List Step)
     → LawfulFrom (hardware_of s) (opening_stage s) s.rings (history s before) (steps_of s before a ++ more) → IsLawfulAct (sizes_in s before) before a
@@ -119,7 +102,7 @@ lawful_acts s before (c ∷ acts) h (d ∷ some) after a e =
     let same : c ≡ d = ap (λ l. get_or l 0 a) e in
     let rest : acts ≡ some ++ a ∷ after = ap (drop 1) e in
     let regrouped : (before ++ c ∷ []) ++ some ≡ before ++ c ∷ some = append_assoc before (c ∷ []) some in
-    let so_far : history s (before ++ c ∷ []) ≡ history s before ++ steps_of s before c = steps_from-push s [] before c in
+    let so_far : history s (before ++ c ∷ []) ≡ history s before ++ steps_of s before c = steps-push s [] before c in
     let later : LawfulFrom (hardware_of s) (opening_stage s) s.rings (history s before ++ steps_of s before c) (steps_from s (before ++ c ∷ []) acts) =
     LawfulFrom-rest (hardware_of s) (opening_stage s) s.rings (history s before) (steps_of s before c) (steps_from s (before ++ c ∷ []) acts) h in
     rw (← same, ← regrouped) (lawful_acts s (before ++ c ∷ []) acts (rw so_far later) some after a rest)

@@ -1,6 +1,6 @@
 -- The first look at a tail that is not lawful, and what the note of such an order says of it.
 use Rattle.std.specs.Prelude.{◌≡◌, ℕ, ◌+◌, ◌==◌, nat_le, Bool, true, false, ◌||◌, List, [], ◌∷◌, ◌++◌, map, find, take, sum, zero, suc, slice_get, Option, Some, None, option_map}
-use Rattle.std.proofs.{Common.{arith, refl, sym, ap, ◌∙◌, append_assoc, append-nil}, lemmas.Bool.{false≢true, Decides.{nat_tests}}}
+use Rattle.std.proofs.{Common.{arith, refl, sym, ap, ◌∙◌, append_assoc, append-nil}, lemmas.Bool.{or_right, false≢true, Decides.{nat_tests}}}
 use Rattle.perf_base.specs.{declared.{numbers.RingNo.{RingNo}, acts.Act.{Act}}, Scripts.{Scripted}}
 use Rattle.perf_base.specs.declared.acts.Act.TheVariants as act
 use Rattle.stage_spec.specs.{Hardware.{Hardware, hardware_of}, Stage.{Stage}, Order.{IsLawfulAct, IsLawfulSeen, last_seen}}
@@ -21,10 +21,6 @@ pub record IsUnlawfulLook (s : Scripted) (number : ℕ) (ring : RingNo) (last he
   pub unlawful : IsLawfulAct (sizes_in s (take number s.order)) (take number s.order) (act.Seen ring given) → ⊥
 
 -- The test of a look is exact: each lawful look passes it.
-either_true : (a b : Bool) → b ≡ true → (a || b) ≡ true
-either_true true b h = refl
-either_true false b h = h
-
 behind_passes : (at place : ℕ) (sizes : List ℕ) (n : ℕ) → place ≡ at + sum (take n sizes) → is_behind at place sizes ≡ true
 behind_passes at place [] zero e = grind (arith, nat_tests, e)
 behind_passes at place [] (suc n) e = grind (arith, nat_tests, e)
@@ -32,7 +28,7 @@ behind_passes at place (x ∷ sizes) zero e =
     let here : (at == place) ≡ true = grind (arith, nat_tests, e) in
     rw here refl
 behind_passes at place (x ∷ sizes) (suc n) e =
-    either_true (at == place) (is_behind (at + x) place sizes) (behind_passes (at + x) place sizes n (omega (arith, e, sum-cons x (take n sizes))))
+    or_right (at == place) (is_behind (at + x) place sizes) (behind_passes (at + x) place sizes n (omega (arith, e, sum-cons x (take n sizes))))
 
 pub lawful_passes : (sizes : List ℕ) (last place : ℕ) → IsLawfulSeen sizes last place → looks_lawful sizes last place ≡ true
 lawful_passes sizes last place h =

@@ -1,6 +1,6 @@
 -- The tables of a world after an instance came, and that it is kept.
-use Rattle.std.specs.Prelude.{◌≡◌, ℕ, ◌+◌, ◌<◌, ◌≤◌, ◌==◌, Bool, true, false, ◌||◌, List, [], ◌∷◌, ◌++◌, length, is_some, Option, Some, None, slice_index_or, slice_set, if◌then◌else◌}
-use Rattle.std.{specs.List.{list_any}, proofs.{Common.{arith, refl, ap, subst, ◌∙◌, inl, inr}, lemmas.Bool.{cases_Bool}}}
+use Rattle.std.specs.Prelude.{◌≡◌, ℕ, ◌+◌, ◌<◌, ◌≤◌, ◌==◌, Bool, true, false, List, [], ◌∷◌, ◌++◌, length, is_some, Option, Some, None, slice_index_or, slice_set, if◌then◌else◌}
+use Rattle.std.{specs.List.{list_any}, proofs.{Common.{arith, refl, ap, subst, ◌∙◌, inl, inr}, lemmas.Bool.{cases_Bool, or_left, or_right}}}
 use Rattle.std.proofs.lemmas.Bool.Decides.{nat_tests}
 use Rattle.perf_base.specs.declared.{attr.Attr.{Attr}, numbers.{EventNo.{EventNo}, Key.{Key}}, reply.Sums.{Sums}}
 use Rattle.stage_spec.specs.{Families.{plus}, Flags.{is_disabled}, Opening.{first_state}, Reading.{is_error}, Shares.{no_sums}}
@@ -118,24 +118,16 @@ added-sums p is w s t k bound h none event copy low small slot =
     omega (arith, small slot, is.both (plus_keys s keys) away, is.both (plus_keys t keys) away, sums-le p is s t h keys))
 
 -- slots that were used
-pub or-left : (a b : Bool) → a ≡ true → (a || b) ≡ true
-or-left true b h = refl
-or-left false b h = absurd (cc)
-
-or-right : (a b : Bool) → b ≡ true → (a || b) ≡ true
-or-right true b h = refl
-or-right false b h = h
-
 any-front : (test : EventNo → Bool) (xs ys : List EventNo) → list_any test xs ≡ true → list_any test (xs ++ ys) ≡ true
 any-front test [] ys h = absurd (cc)
 any-front test (x ∷ xs) ys h = elim (cases_Bool (test x)) [
-  | inl e ↦ or-left (test x) (list_any test (xs ++ ys)) e
-  | inr e ↦ or-right (test x) (list_any test (xs ++ ys)) (any-front test xs ys (rw e at h))
+  | inl e ↦ or_left (test x) (list_any test (xs ++ ys)) e
+  | inr e ↦ or_right (test x) (list_any test (xs ++ ys)) (any-front test xs ys (rw e at h))
 ]
 
 any-back : (test : EventNo → Bool) (xs ys : List EventNo) → list_any test ys ≡ true → list_any test (xs ++ ys) ≡ true
 any-back test [] ys h = h
-any-back test (x ∷ xs) ys h = or-right (test x) (list_any test (xs ++ ys)) (any-back test xs ys h)
+any-back test (x ∷ xs) ys h = or_right (test x) (list_any test (xs ++ ys)) (any-back test xs ys h)
 
 pub used-more : (copy : Bool) (used : List EventNo) (e new : EventNo) → list_any (λ x. x.0 == e.0) used ≡ true → list_any (λ x. x.0 == e.0) (if copy then used else used ++ new ∷ []) ≡ true
 used-more true used e new h = h
@@ -143,7 +135,7 @@ used-more false used e new h = any-front (λ x. x.0 == e.0) used (new ∷ []) h
 
 pub used-new : (copy : Bool) (used : List EventNo) (e : EventNo) → copy ≡ false → list_any (λ x. x.0 == e.0) (if copy then used else used ++ e ∷ []) ≡ true
 used-new true used e h = absurd (cc)
-used-new false used e h = any-back (λ x. x.0 == e.0) used (e ∷ []) (or-left (e.0 == e.0) false (grind (arith, nat_tests)))
+used-new false used e h = any-back (λ x. x.0 == e.0) used (e ∷ []) (or_left (e.0 == e.0) false (grind (arith, nat_tests)))
 
 -- a new instance is not in error
 pub fresh-state : (b : Bool) (a : Attr) → is_disabled a ≡ b → is_error (first_state a) ≡ false

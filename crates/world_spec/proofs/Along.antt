@@ -1,7 +1,7 @@
 -- The keys that a processor reaches: those that are on and those that are ready are the stage's, and what the
 -- definitions give each of a stretch of work is what it has along the processor.
-use Rattle.std.specs.Prelude.{◌≡◌, ℕ, ◌+◌, ◌≤◌, ◌==◌, Bool, true, false, ◌&&◌, cond, List, [], ◌∷◌, ◌++◌, map, filter, flat_map, count_by, option_map, if◌then◌else◌}
-use Rattle.std.proofs.{Common.{arith, refl, sym, ap, ◌∙◌, inl, inr}, lemmas.Bool.{cases_eq, cases_Bool, false≢true, Decides.{nat_tests}}}
+use Rattle.std.specs.Prelude.{◌≡◌, ℕ, ◌+◌, ◌≤◌, ◌==◌, Bool, true, false, ◌&&◌, cond, All, List, [], ◌∷◌, ◌++◌, map, filter, flat_map, count_by, option_map, slice_index_or, if◌then◌else◌}
+use Rattle.std.proofs.{Common.{arith, refl, sym, ap, ◌∙◌, inl, inr}, lemmas.Bool.{cases_eq, cases_Bool, and_parts, and_right, eq-eqb, false≢true, Decides.{nat_tests}}}
 use Rattle.std.proofs.lemmas.List.Elements.{filter-append}
 use Rattle.perf_base.specs.declared.{attr.{Attr.{Attr}, Kind.{Kind}}, lines.Work.{Work}, numbers.{CpuNo.{CpuNo}, Key.{Key}}, reply.Sums.{Sums}}
 use Rattle.perf_base.specs.{declared.standing.{Context.{Context}, Own.{Own}}, Standings.{stands_on}}
@@ -17,7 +17,7 @@ use Rattle.world_spec.specs.{Value.{World, is_live, entry_at, instance_at, stand
 use Rattle.world_spec.specs.{Kept.{post_at, once_if, leads, IsKept}, Metering.{is_metered, work_given, ShareLaw, GivenLaw, AlongLaw}}
 use Rattle.world_spec.specs.{Rescheduled.{IsJudged}, Ways.{is_ready_at, is_on_at}}
 use Rattle.world_spec.specs.Working.{is_effective, is_on, leaders_by_pass, keys_by_pass, ready_in, effective_in, ReachedKeysLaw}
-use Rattle.world_spec.proofs.{Coming.{number_true}, Counting.{find-mapped, find-one, find-none, times-filter}, Families.{members_at}}
+use Rattle.world_spec.proofs.{Coming.{number_true}, Copies.{times-at}, Counting.{find-mapped, find-one, find-none, times-filter}, Families.{members_at}}
 use Rattle.world_spec.proofs.Keys.{key-is, is_key-same, is_key-true, times-cons, once-true, once-false}
 use Rattle.world_spec.proofs.{Listings.{held-by, counted-there, stands_in_task, reached-once, reached-leading, reached-context}, Moving.{leads-parts}}
 use Rattle.world_spec.proofs.Rescheduling.{is_led, is_about, about-groups, among-none, same-id}
@@ -30,8 +30,17 @@ pub once-both : (b : Bool) → 1 ≤ once_if b → b ≡ true
 once-both true h = refl
 once-both false h = absurd (omega (arith, h))
 
+pub once-three : (a b c : Bool) → 1 ≤ once_if (a && b && c) → (a ≡ true) × (b ≡ true) × (c ≡ true)
+once-three a b c some =
+    let parts = and_parts (a && b) c (once-both (a && b && c) some) in
+    let front = and_parts a b parts.0 in (front.0, front.1, parts.1)
+
 pub member-of : (hw : Hardware) (w : World) → IsKept hw w → (q k : Key) → 1 ≤ times k (members_at w q) → (is_live w k ≡ true) × ((entry_at w k).leader ≡ q)
 member-of hw w h q k some = grind (arith, nat_tests, leads-parts, once-both, key-is, is_key-true, some, h.linked.members k q)
+
+pub members-live : (hw : Hardware) (w : World) (leader : Key) → IsKept hw w → All (λ k. is_live w k ≡ true) (entry_at w leader).members
+members-live hw w leader h i d low =
+    (member-of hw w h leader (slice_index_or (entry_at w leader).members i d) (times-at (entry_at w leader).members i d low)).0
 
 -- a test that no key passes
 pub filter-no : (keys : List Key) → filter (λ k. false) keys ≡ []
@@ -92,10 +101,6 @@ both-true true true h = refl
 both-true false b h = refl
 both-true true false h = absurd (false≢true h)
 
-pub not-both : (a b : Bool) → b ≡ false → (a && b) ≡ false
-not-both true b h = h
-not-both false b h = refl
-
 on-in : (hw : Hardware) (w : World) → IsKept hw w → (q : Key) → (stands_on (standing_at w q) ≡ true → is_ready (instance_at w q).own ≡ true)
     → cond (stands_on (standing_at w q)) (ready_in w q) [] ≡ filter (is_on w) (members_at w q)
 on-in hw w h q ready = elim (cases_Bool (stands_on (standing_at w q))) [
@@ -112,7 +117,7 @@ on-in hw w h q ready = elim (cases_Bool (stands_on (standing_at w q))) [
   | inr off ↦
       ap (λ b. cond b (ready_in w q) []) off
       ∙ sym (filter-same (is_on w) (λ k. false) (members_at w q) (λ k some.
-      not-both (is_effective w k) (stands_on (standing_at w (entry_at w k).leader)) (ap (λ x. stands_on (standing_at w x)) (member-of hw w h q k some).1 ∙ off))
+      and_right (is_effective w k) (stands_on (standing_at w (entry_at w k).leader)) (ap (λ x. stands_on (standing_at w x)) (member-of hw w h q k some).1 ∙ off))
       ∙ filter-no (members_at w q))
 ]
 
@@ -138,14 +143,11 @@ on-keys hw w cpu h judged = grind (arith, nat_tests, on-is, on-are, on-ready)
 by-id : (hw : Hardware) (w : World) → IsKept hw w → (j k : Key) → is_live w j ≡ true → is_live w k ≡ true → ((instance_at w j).id == (instance_at w k).id) ≡ true → j.0 ≡ k.0
 by-id hw w h j k live_j live_k same = ap (λ q. q.0) (h.numbered.once j k live_j live_k (number_true (instance_at w j).id (instance_at w k).id same))
 
-own_number : (n : ℕ) → (n == n) ≡ true
-own_number n = grind (arith, nat_tests)
-
 pub measure-in : (hw : Hardware) (w : World) → IsKept hw w → (f : Instance → ℕ) (keys : List Key) (k : Key) → ((q : Key) → 1 ≤ times q keys → is_live w q ≡ true)
     → is_live w k ≡ true → 1 ≤ times k keys → of_instance f (instance_at w k).id (map (instance_at w) keys) ≡ f (instance_at w k)
 measure-in hw w h f keys k lives live some =
     ap (measured f) (find-mapped (λ i. i.id == (instance_at w k).id) (instance_at w) keys
-    ∙ ap (option_map (instance_at w)) (find-one (λ q. (instance_at w q).id == (instance_at w k).id) keys k (own_number (instance_at w k).id) some
+    ∙ ap (option_map (instance_at w)) (find-one (λ q. (instance_at w q).id == (instance_at w k).id) keys k (eq-eqb (instance_at w k).id (instance_at w k).id refl) some
     (λ q there same. by-id hw w h q k (lives q there) live same)))
 
 pub measure-out : (hw : Hardware) (w : World) → IsKept hw w → (f : Instance → ℕ) (keys : List Key) (k : Key) → ((q : Key) → 1 ≤ times q keys → is_live w q ≡ true)
@@ -234,14 +236,6 @@ on-nowhere true true s h = absurd (false≢true (sym h))
 on-nowhere true false s h = refl
 on-nowhere false b s h = refl
 
-ready-here : (e b : Bool) → b ≡ true → (e && b) ≡ e
-ready-here true b h = h
-ready-here false b h = refl
-
-ready-nowhere : (e b : Bool) → b ≡ false → (e && b) ≡ false
-ready-nowhere true b h = h
-ready-nowhere false b h = refl
-
 module _ (w : World) (cpu : CpuNo) (h : IsKept w.hardware w) (judged : IsJudged w.hardware w cpu) (f : Instance → ℕ) (k : Key) (live : is_live w k ≡ true) where
   abbrev there : Bool
   there = has_context (stage_of w) cpu (entry_at w k).context
@@ -269,10 +263,10 @@ module _ (w : World) (cpu : CpuNo) (h : IsKept w.hardware w) (judged : IsJudged 
   ready-share = ap (of_instance f (instance_at w k).id) (ready-keys w.hardware w cpu h) ∙ elim (cases_Bool there) [
     | inl here ↦
         chosen-measure w.hardware w h f (is_effective w) (keys_by_pass w cpu) k (keys-live w.hardware w cpu h) live (some_there here)
-        ∙ sym (ap (λ b. if b then f (instance_at w k) else 0) (ready-here (is_effective w k) there here))
+        ∙ sym (ap (λ b. if b then f (instance_at w k) else 0) (both-true (is_effective w k) there here))
     | inr away ↦
         chosen-none w.hardware w h f (is_effective w) (keys_by_pass w cpu) k (keys-live w.hardware w cpu h) live (none_there away)
-        ∙ sym (ap (λ b. if b then f (instance_at w k) else 0) (ready-nowhere (is_effective w k) there away))
+        ∙ sym (ap (λ b. if b then f (instance_at w k) else 0) (and_right (is_effective w k) there away))
   ]
 
 -- the share of a stretch of work

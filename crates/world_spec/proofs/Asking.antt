@@ -1,15 +1,15 @@
 -- That answers by a world are answers by its record, and that a settled stage stays under a line that asks.
-use Rattle.std.specs.Prelude.{◌≡◌, ◌≤◌, ◌==◌, ◌&&◌, Bool, not, true, is_some, All, List, [], ◌∷◌, slice_index_or}
-use Rattle.std.proofs.{Common.{arith, refl, sym, ap, subst, ◌∙◌, inl, inr}, lemmas.{Bool.{cases_Bool}, List.Elements.{All-map}}}
-use Rattle.perf_base.specs.declared.{numbers.{EventNo.{EventNo}, Key.{Key}}, reply.Sums.{Sums}}
-use Rattle.stage_spec.specs.{Families.{plus}, Hardware.{Hardware}, Shares.{no_sums}, Stage.{is_open}}
+use Rattle.std.specs.Prelude.{◌≡◌, true, is_some, All, slice_index_or}
+use Rattle.std.proofs.{Common.{arith, refl, sym, ap, subst, ◌∙◌}, lemmas.{List.Elements.{All-map}}}
+use Rattle.perf_base.specs.declared.{numbers.{EventNo.{EventNo}, Key.{Key}}}
+use Rattle.stage_spec.specs.{Hardware.{Hardware}, Shares.{no_sums}, Stage.{is_open}}
 use Rattle.ring_spec.specs.{Agreement.{IsCurrentSlot, Agree, AreFamiliesOpen}, Running.{Running, family_by, IsAnswerBy}}
 use Rattle.ring_spec.proofs.{Agreement.{answer_agrees}, Running.{same_answer}}
-use Rattle.world_spec.specs.{Agreement.{AgreesWith}, Kept.{IsKept, keys_of, plus_keys, family_sums}, StageOf.{stage_of}, Staying.{IsOriginalOf}}
-use Rattle.world_spec.specs.{Value.{World, is_live, instance_at, family_of, is_key, times}, Asking.{AnswerLaw}}
-use Rattle.world_spec.proofs.{Accounts.{family-times}, ComingLinks.{none_of_three}, Copies.{times-at}}
+use Rattle.world_spec.specs.{Agreement.{AgreesWith}, Kept.{IsKept, family_sums}, StageOf.{stage_of}, Staying.{IsOriginalOf}}
+use Rattle.world_spec.specs.{Value.{World, instance_at}, Asking.{AnswerLaw}}
+use Rattle.world_spec.proofs.{Copies.{times-at}}
 use Rattle.world_spec.proofs.Families.{all_keys, instances-are, key-lives, family-sums, open-is}
-use Rattle.world_spec.proofs.{Keys.{is_key-same, times-cons, once-true, once-false}, Staying.{origin-is}}
+use Rattle.world_spec.proofs.{Staying.{origin-is}}
 use Rattle.world_spec.proofs.Agreement.{sums-within, family-lives}
 
 -- the record with the world's own folded sums and lost counts

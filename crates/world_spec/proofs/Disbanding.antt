@@ -1,6 +1,6 @@
 -- What posts, links and groups are after a leader went and its siblings lead groups of their own, over plain posts.
 use Rattle.std.specs.Prelude.{◌≡◌, ℕ, ◌+◌, ◌<◌, ◌≤◌, ◌==◌, Bool, true, false, not, ◌&&◌, cond, List, [], ◌∷◌, ◌++◌, length, slice_index_or, slice_set, if◌then◌else◌}
-use Rattle.std.proofs.{Common.{arith, refl, sym, ap, subst, ◌∙◌, inl, inr}, lemmas.Bool.{cases_Bool, false≢true, Decides.{nat_tests}}}
+use Rattle.std.proofs.{Common.{arith, refl, sym, ap, subst, ◌∙◌, inl, inr}, lemmas.Bool.{cases_Bool, false≢true, Decides.{nat_tests}}, Math.Bool.{and-true}}
 use Rattle.perf_base.specs.declared.numbers.Key.{Key}
 use Rattle.stage_spec.specs.Stage.{place_of}
 use Rattle.stage_laws.proofs.Counts.{count-append}
@@ -102,12 +102,8 @@ disband-same false true k keys l none off = off refl
 disband-same false false k keys l none off = omega (arith, count-append (is_key k) (all_but k l.flexible) keys, times-all_but_same k l.flexible, none)
 
 -- tests
-pub and_true : (b : Bool) → (b && true) ≡ b
-and_true true = refl
-and_true false = refl
-
 all_hold : (a b c d : Bool) → a ≡ true → b ≡ true → c ≡ d → ((a && b) && c && true) ≡ d
-all_hold a b c d ha hb e = rw (ha, hb, e) (and_true d)
+all_hold a b c d ha hb e = rw (ha, hb, e) (and-true d)
 
 either_fails : (b : Bool) (f : Bool → Bool) (here : Bool) → f true ≡ false → f false ≡ here → here ≡ false → f b ≡ false
 either_fails true f here sure off h = sure

@@ -2,9 +2,10 @@
 -- world's.
 use Rattle.std.specs.Prelude.{◌≡◌, ℕ, ◌+◌, ◌<◌, ◌≤◌, ◌==◌, Bool, true, false, not, ◌&&◌, cond, List, [], ◌∷◌, ◌++◌, length, map, filter, find, count_by, flat_map, is_some, Option, Some, None, option_map, slice_index_or, if◌then◌else◌}
 use Rattle.std.{specs.List.{list_any}, proofs.{Common.{arith, refl, sym, ap, ◌∙◌, inl, inr}, lemmas.Bool.{cases_Bool, Decides.{nat_tests}}}}
-use Rattle.std.proofs.lemmas.List.{length-map, map-append, Concat.{length-flat_map}, Sums.{length-filter}}
+use Rattle.std.proofs.{lemmas.List.{length-map, map-append, Concat.{length-flat_map}, Sums.{length-filter}}, Math.Bool.{and-true}}
 use Rattle.perf_base.specs.declared.{numbers.{EventNo.{EventNo}, Key.{Key}}, reply.Sums.{Sums}}
-use Rattle.stage_spec.specs.{declared.instance.Instance.{Instance}, Families.{plus, plus_each}, Hardware.{Hardware}}
+use Rattle.perf_base.specs.declared.reasons.Reason.TheVariants as reason
+use Rattle.stage_spec.specs.{declared.instance.Instance.{Instance}, Commands.{closed_refusal}, Families.{plus, plus_each}, Hardware.{Hardware}, Refusals.{first_of}}
 use Rattle.stage_spec.specs.Stage.{members_of, members, groups_in, all_instances, place_of, is_of_family, is_original, is_copy}
 use Rattle.stage_laws.{specs.Sound.{has_id}, proofs.Images.{filter-map}}
 use Rattle.stage_laws.proofs.Totals.{total, one_if, as_number, total-nil, total-cons, total-map, total-same, total-none, count_by-is-total}
@@ -18,7 +19,6 @@ use Rattle.world_spec.proofs.{Accounts.{IsSum, counts_are_sums, times_are_sums, 
 use Rattle.world_spec.proofs.{AddedStage.{one-in_option}, Going.{all_three}, GoneStage.{AreLeading}, GoneLeaderStage.{leading-rest, leading-first}}
 use Rattle.world_spec.proofs.Folding.{run_times_are_sums}
 use Rattle.world_spec.proofs.Counting.{times-flat, spread-one, spread-zero, AreSameKeys, same-total, times-filter, find-one, find-none, find-mapped, any-find, any-there, any-key}
-use Rattle.world_spec.proofs.Disbanding.{and_true}
 
 -- the leaders of all contexts, and the keys of all groups
 abbrev pub leaders_both : Leaders → List Key
@@ -136,7 +136,7 @@ copy-keys hw w h k =
           let low : event < length w.families = omega (arith, h.numbered.slots k parts.0, h.tables.families) in
           let one : total f w.families ≡ 1 = spread-one f no_family w.families 0 event
           (λ p below. h.linked.copies k p ∙ (ap (λ b. once_if (b && event == p && copy)) parts.0 ∙ (ap (λ b. once_if (event == p && b)) parts.1
-          ∙ ap once_if (and_true (event == p) ∙ (turned event p ∙ ap (λ n. n == event) (plus-zero p)))))) (omega arith) (omega (arith, low)) in
+          ∙ ap once_if (and-true (event == p) ∙ (turned event p ∙ ap (λ n. n == event) (plus-zero p)))))) (omega arith) (omega (arith, low)) in
           chosen-one (is_live w k) copy parts.0 parts.1 ∙ sym one
       | inr off ↦
           let none : total f w.families ≡ 0 = spread-zero f no_family w.families
@@ -236,6 +236,12 @@ some-mapped f (Some k) = refl
 pub open-is : OpenSlotLaw
 open-is hw w e h =
     any-find (is_original e) (all_instances (stage_of w)) ∙ (ap is_some (original-is hw w e h) ∙ some-mapped (instance_at w) (family_of w e).original)
+
+pub closed-none : (hw : Hardware) (w : World) (e : EventNo) → IsKept hw w → (family_of w e).original ≡ None → closed_refusal (stage_of w) e ≡ Some reason.NoEvent
+closed-none hw w e h none = ap (λ b. first_of ((reason.NoEvent, not b) ∷ [])) (open-is hw w e h ∙ ap is_some none)
+
+pub open-some : (hw : Hardware) (w : World) (e : EventNo) (k : Key) → IsKept hw w → (family_of w e).original ≡ Some k → closed_refusal (stage_of w) e ≡ None
+open-some hw w e k h some = ap (λ b. first_of ((reason.NoEvent, not b) ∷ [])) (open-is hw w e h ∙ ap is_some some)
 
 -- and its group
 has_original : World → EventNo → Key → Bool

@@ -1,6 +1,6 @@
 -- What contexts and processors have on the stage, by the keys of a world.
 use Rattle.std.specs.Prelude.{◌≡◌, ℕ, ◌+◌, ◌<◌, ◌≤◌, ◌==◌, Bool, true, false, not, ◌&&◌, cond, All, List, [], ◌∷◌, ◌++◌, length, map, count_by, flat_map, Option, Some, None, nat_lt, slice_index_or, if◌then◌else◌}
-use Rattle.std.proofs.{Common.{arith, refl, sym, ap, subst, ◌∙◌, inl, inr}, lemmas.Bool.{cases_Bool, false≢true, Decides.{nat_tests}}}
+use Rattle.std.proofs.{Common.{arith, refl, sym, ap, subst, ◌∙◌, inl, inr}, lemmas.Bool.{cases_Bool, false≢true, not-true, Decides.{nat_tests}}}
 use Rattle.std.proofs.{lemmas.List.{get_or-map as get_or-mapped, length-map, map-append}, Math.ListN.{get_or-map}}
 use Rattle.perf_base.specs.declared.{numbers.{CpuNo.{CpuNo}, Key.{Key}, TaskNo.{TaskNo}}, standing.Context.{Context}}
 use Rattle.perf_base.specs.declared.standing.Context.TheVariants as context
@@ -80,10 +80,6 @@ all-mapped w P keys h i d low =
     let k : Key = slice_index_or keys i (record { 0 = 0 }) in
     subst P (sym (get_or-mapped (instance_at w) keys i (record { 0 = 0 }) d (omega (arith, low, size)))) (h k (times-at keys i (record { 0 = 0 }) (omega (arith, low, size))))
 
-original-not_copy : (copy : Bool) → not copy ≡ true → copy ≡ false
-original-not_copy true h = absurd (false≢true h)
-original-not_copy false h = refl
-
 ap-le : {m n : ℕ} → m ≡ n → n ≤ 1 → m ≤ 1
 ap-le e low = omega (arith, e, low)
 
@@ -109,7 +105,7 @@ is-numbered hw w h =
           (λ j k some_j some_k first second. one-in_option _ j k (stands-original hw w h e j (lives j some_j) first) (stands-original hw w h e k (lives k some_k) second)));
       used = λ e unused. counted (is_original e) ∙ count-none (λ k. is_original e (instance_at w k)) (all_keys w) (λ k some passes.
           let parts : (is_of_family e (instance_at w k) ≡ true) × (not (instance_at w k).copy ≡ true) = leads-parts (is_of_family e (instance_at w k)) (not (instance_at w k).copy) passes in
-          let was : is_used (stage_of w) (instance_at w k).event ≡ true = h.lawful.used k (lives k some) (original-not_copy (instance_at w k).copy parts.1) in
+          let was : is_used (stage_of w) (instance_at w k).event ≡ true = h.lawful.used k (lives k some) (not-true (instance_at w k).copy parts.1) in
           false≢true (sym unused ∙ (ap (λ n. is_used (stage_of w) (record { 0 = n })) (sym (number_true (instance_at w k).event.0 e.0 parts.0)) ∙ was)));
       few_copies = subst (λ n. n ≤ 4096) (sym (copies-are hw w h)) h.copies.few;
     }

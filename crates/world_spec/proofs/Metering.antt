@@ -1,14 +1,13 @@
 -- A line of work keeps a world, and lets no family grow by more than one instance may.
-use Rattle.std.specs.Prelude.{◌≡◌, ℕ, zero, suc, ◌+◌, ◌^◌, ◌<◌, ◌≤◌, ◌==◌, max, Bool, true, false, not, ◌&&◌, List, [], ◌∷◌, length, ◌⊎◌, is_some, Option, Some, None, slice_index, slice_index_or, slice_set, if◌then◌else◌}
-use Rattle.std.specs.{FinMap.{get}, List.{fold}, Option.{unwrap_or}}
-use Rattle.std.proofs.{Common.{arith, refl, sym, ap, subst, ◌∙◌, inl, inr, get_or-set_other, get_or-set_same}, Math.Nat.{le-max_left, le-max_right}}
+use Rattle.std.specs.Prelude.{◌≡◌, ℕ, ◌+◌, ◌^◌, ◌<◌, ◌≤◌, ◌==◌, max, Bool, true, false, not, ◌&&◌, List, [], ◌∷◌, length, ◌⊎◌, is_some, Option, Some, None, slice_index_or, slice_set, if◌then◌else◌}
+use Rattle.std.specs.{FinMap.{get}, Option.{unwrap_or}}
+use Rattle.std.proofs.{Common.{arith, refl, sym, ap, subst, ◌∙◌, inl, inr, get_or-set_other, get_or-set_same}}
 use Rattle.std.proofs.{Math.Seq.{set_out}, lemmas.{Bool.{cases_eq, cases_lt, cases_Bool, false≢true}, List.{length-set}}}
-use Rattle.perf_base.specs.declared.{attr.{Attr.{Attr}, Kind.{Kind}}, lines.{Mode.{Mode}, Work.{Work}}, numbers.{CpuNo.{CpuNo}, Key.{Key}}}
+use Rattle.perf_base.specs.declared.{lines.{Mode.{Mode}, Work.{Work}}, numbers.{CpuNo.{CpuNo}, Key.{Key}}}
 use Rattle.perf_base.specs.{declared.reply.Sums.{Sums}, Standings.{stands_on}}
-use Rattle.perf_base.specs.declared.attr.Kind.TheVariants as kind
 use Rattle.perf_base.specs.declared.lines.CpuLine.TheVariants as cpu_line
 use Rattle.perf_base.specs.declared.lines.Mode.TheVariants as mode
-use Rattle.stage_spec.specs.{Families.{plus}, Hardware.{Hardware}, Shares.{no_sums, counted_by, work_hits}}
+use Rattle.stage_spec.specs.{Families.{plus}, Hardware.{Hardware}, Shares.{no_sums, work_hits}}
 use Rattle.stage_laws.specs.{Narrowing.{has_context}, Bounds.{greatest, most_of_line, AreAtMost}}
 use Rattle.world_spec.specs.Value.{World, Account, Totals, no_totals, no_account, no_family, is_live, entry_at, instance_at, account_at, standing_at, is_key, times}
 use Rattle.world_spec.specs.{StageOf.{stage_of}, Kept.{once_if, keys_of, plus_keys, family_sums, HaveTotals, AreSmallTotals, IsKept}}
@@ -17,7 +16,7 @@ use Rattle.world_spec.specs.Metering.{add_each, add_hits, metered, work_given, I
 use Rattle.world_spec.proofs.{Accounts.{IsSum, counts_are_sums, times_are_sums, family-times, family-once}, Coming.{number_true}}
 use Rattle.world_spec.proofs.{Folding.{run_times_are_sums}, Keeping.{bounded-set}, Keys.{is_key-same, times-cons, once-true}, Moving.{leads-parts}}
 use Rattle.world_spec.proofs.{Reaching.{one-reached}, Ways.{other-ways}}
-use Rattle.stage_laws.proofs.BoundsStep.{greatest-start, greatest-at, unless-le, counted-le}
+use Rattle.stage_laws.proofs.BoundsStep.{counted-le}
 use Rattle.world_spec.proofs.ComingLinks.{none_of_two}
 
 -- what one instance is given is at most the most of a line

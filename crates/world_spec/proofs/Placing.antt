@@ -1,6 +1,6 @@
 -- Tasks that are placed, that come and that exit keep a world.
-use Rattle.std.{specs.Prelude.{◌≡◌, length, Option, Some, None, slice_index_or, slice_set}, proofs.Common.{refl, sym, ap, ◌∙◌, inl, inr}}
-use Rattle.std.proofs.lemmas.{Bool.{cases_eq, false≢true}, List.{length-set}, Option.{none-some}}
+use Rattle.std.{specs.Prelude.{◌≡◌, ◌<◌, length, Option, Some, None, slice_index_or, slice_set}, proofs.Common.{arith, refl, sym, ap, ◌∙◌, inl, inr}}
+use Rattle.std.proofs.lemmas.{Bool.{cases_eq, cases_lt, false≢true}, List.{length-set, get_or_past}, Option.{none-some}}
 use Rattle.perf_base.specs.declared.numbers.{CpuNo.{CpuNo}, TaskNo.{TaskNo}}
 use Rattle.stage_spec.specs.{declared.instance.TaskStatus.{TaskStatus}, Hardware.{Hardware}}
 use Rattle.stage_spec.specs.Stage.{Stage, task_on, status_of, is_live, set_running, set_status, fresh_task, unknown_task}
@@ -9,6 +9,15 @@ use Rattle.stage_laws.specs.Sound.{AreRunning}
 use Rattle.stage_laws.proofs.Tasks.{some-same, given-AreRunning, status-AreRunning, state-kept, status_of-other, task_numbered}
 use Rattle.world_spec.specs.{Value.{World}, StageOf.{stage_of}, Kept.{IsKept}, Changes.{with_running, with_status}}
 use Rattle.world_spec.{specs.Laws.{IsFree, PlaceLaw, PlaceKeptLaw, TaskLaw, TaskKeptLaw, EndLaw, EndKeptLaw}, proofs.Keeping.{quiet-kept}}
+
+-- the task on a processor has a number
+pub task-low : (hw : Hardware) (w : World) (cpu : CpuNo) (task : TaskNo) → IsKept hw w → task_on (stage_of w) cpu ≡ Some task → task.0 < 64
+task-low hw w cpu task h on = elim (cases_lt task.0 64) [
+  | inl low ↦ low
+  | inr past ↦
+      let unknown : status_of (stage_of w) task ≡ unknown_task = get_or_past w.quiet.tasks task.0 unknown_task (omega (arith, past, h.shape.tasks)) in
+      absurd (false≢true (ap (λ s. is_live s.state) (sym unknown) ∙ h.running.live cpu task on))
+]
 
 pub place-stage : PlaceLaw
 place-stage w cpu None = refl

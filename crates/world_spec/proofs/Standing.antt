@@ -1,5 +1,5 @@
 -- What a processor's seats answer, and that it is untouched where what verdicts need of its groups stays.
-use Rattle.std.specs.Prelude.{◌≡◌, ℕ, ◌<◌, ◌==◌, Bool, true, false, ◌&&◌, cond, List, [], ◌∷◌, ◌++◌, length, map, filter, flat_map, if◌then◌else◌}
+use Rattle.std.specs.Prelude.{◌≡◌, ℕ, ◌<◌, ◌==◌, Bool, true, false, cond, List, [], ◌∷◌, ◌++◌, length, map, filter, flat_map, if◌then◌else◌}
 use Rattle.std.proofs.{Common.{refl, sym, ap, subst, ◌∙◌, append_assoc}, lemmas.List.{append-nil, length-map, map-append, Elements.{filter-append}}}
 use Rattle.std.proofs.lemmas.{Simd.{map-map}, Slice.Zip.{firsts-zip, seconds-zip}}
 use Rattle.perf_base.specs.{declared.{numbers.{CpuNo.{CpuNo}, EventNo.{EventNo}}, standing.Standing.{Standing}}, Standings.{stands_on}}
@@ -7,7 +7,7 @@ use Rattle.perf_base.specs.declared.standing.Standing.TheVariants as standing
 use Rattle.stage_spec.specs.{declared.instance.Instance.{Instance}, Effective.{is_ready, is_hardware, counted_members}, Fits.{IsAssignment}}
 use Rattle.stage_spec.specs.{Hardware.{Hardware, mask_of}, Replies.{seated}, Stage.{Stage, Group, members_of}, Tight.{masks_of}}
 use Rattle.stage_spec.specs.Verdict.{Judged, is_eligible, passes, judge, judge_pass, judge_passes, verdicts, groups_on, with_masks, standing_among}
-use Rattle.stage_laws.{specs.{Briefs.{GroupBrief}, Standings.{brief_of, briefs, standings}}, proofs.Briefs.{by_briefs, filter-one, filter-both}}
+use Rattle.stage_laws.{specs.{Briefs.{GroupBrief}, Standings.{brief_of, briefs, standings}}, proofs.Briefs.{by_briefs, filter-both}}
 use Rattle.stage_laws.proofs.ByStandings.{settled_by_briefs}
 use Rattle.counter_match.specs.Seating.{Seated, slots_of}
 use Rattle.world_spec.specs.{StageOf.{group_at, stage_of}, Value.{World, seats_at}, Rescheduled.{IsLeft, IsRescheduled, SeatsAnswerLaw, LeftLaw}}

@@ -6,11 +6,11 @@ use Rattle.perf_base.specs.declared.standing.Standing.TheVariants as standing
 use Rattle.stage_spec.specs.{Hardware.{Hardware}, Shares.{no_sums}}
 use Rattle.world_spec.specs.Value.{World, Family, no_account, no_family, is_live, entry_at, instance_at, account_at, standing_at, family_of, is_key, times}
 use Rattle.world_spec.specs.Kept.{post_at, in_option, is_original_in, leads, IsKept}
-use Rattle.world_spec.specs.{Adding.{Newcomer, new_entry, leave_group, taken_out, drop_instance}, Comings.{HasRoom}}
+use Rattle.world_spec.specs.{Adding.{Newcomer, leave_group, taken_out, drop_instance}, Comings.{HasRoom}}
 use Rattle.world_spec.specs.Staying.{HasGone, HasCome, IsOriginalOf, GoStaysLaw, FoldStaysLaw, AddStaysLaw, OriginLaw}
 use Rattle.world_spec.proofs.{Tables.{get-here, get-there}, Keys.{key-is, is_key-true, once-true, once-false, times-cons}}
 use Rattle.world_spec.proofs.{Coming.{three, number_true}, Added.{added, comes-by, other-instance, new-entry_at, entry-instance}, Going.{Goes}}
-use Rattle.world_spec.proofs.{Gone.{left_world, left-goes, left-instance, get-left, account-left}, Disbanding.{disbands-goes}}
+use Rattle.world_spec.proofs.{Gone.{left_world, left-goes, left-instance, account-left}, Disbanding.{disbands-goes}}
 use Rattle.world_spec.proofs.GoneLeader.{AreFreed, entries_freed, standings_freed, led_world, dropped-leader, tables-freed, led-disbands, led-instance}
 use Rattle.world_spec.proofs.{Dropping.{it-leads}, Folding.{folded-is, copy-may}, Reaching.{is-original}}
 use Rattle.world_spec.proofs.AddedKept.{context-new}

@@ -1,11 +1,11 @@
 -- That a world that a step leads to agrees with the record after the step.
 use Rattle.std.specs.Prelude.{◌≡◌, ℕ, ◌+◌, ◌<◌, ◌≤◌, ◌==◌, Bool, true, false, ◌&&◌, List, [], ◌∷◌, map, find, count_by, Option, Some, None, slice_index_or}
-use Rattle.std.{specs.List.{list_any}, proofs.{Common.{arith, refl, sym, ap, subst, ◌∙◌, inl, inr}, lemmas.Bool.{cases_Bool, cases_lt, false≢true}}}
+use Rattle.std.{specs.List.{list_any}, proofs.{Common.{arith, refl, sym, ap, subst, ◌∙◌, inl, inr}, lemmas.Bool.{cases_Bool, cases_lt, eq-eqb, false≢true}}}
 use Rattle.std.proofs.lemmas.{Bool.Decides.{nat_tests}, List.{get_or_past}}
 use Rattle.perf_base.specs.declared.{lines.ToolLine.{ToolLine}, numbers.{EventNo.{EventNo}, Key.{Key}}, reasons.Reason.{Reason}}
 use Rattle.perf_base.specs.declared.lines.ToolLine.TheVariants as tool_line
 use Rattle.stage_spec.specs.{declared.instance.Instance.{Instance}, Families.{plus, plus_each, leaving}}
-use Rattle.stage_spec.specs.{Hardware.{Hardware}, History.{Step, CpuStep, ToolStep, SeenStep, stage_step}, Recurrence.{after_reset}}
+use Rattle.stage_spec.specs.{Hardware.{Hardware}, History.{Step, CpuStep, ToolStep, SeenStep, stage_step}}
 use Rattle.stage_spec.specs.Remainders.{instance_of, period_unless, line_period, new_period, left_by}
 use Rattle.stage_spec.{specs.{Shares.{no_sums}, Stage.{Stage, all_instances}}, proofs.Births.{share-none, reset-none}}
 use Rattle.stage_spec.proofs.{Each.{Each, head-Each, tail-Each}, Ids.{IdBelow, AllBelow}, Inside.{InStage-from_all}, Present.{each_at}}
@@ -36,16 +36,13 @@ none-found id [] h = refl
 none-found id (i ∷ xs) h = grind (arith, find-later, other-number, head-Each, IdBelow, tail-Each, none-found id xs (tail-Each (IdBelow id) i xs h))
 
 -- the instance of an id is that of its key
-is-number : (n : ℕ) → (n == n) ≡ true
-is-number n = grind (arith, nat_tests)
-
 found-key : (w : World) (k : Key) (keys : List Key) → ((q : Key) → 1 ≤ times q keys → (instance_at w q).id ≡ (instance_at w k).id → q ≡ k) → 1 ≤ times k keys
     → find (λ i. i.id == (instance_at w k).id) (map (instance_at w) keys) ≡ Some (instance_at w k)
 found-key w k [] only there = absurd (omega (arith, there))
 found-key w k (q ∷ keys) only there = elim (cases_Bool ((instance_at w q).id == (instance_at w k).id)) [
   | inl same ↦ grind (arith, times-cons q q keys, once-true (is_key q q) (is_key-same q q refl))
   | inr other ↦
-      let apart : q.0 ≡ k.0 → ⊥ = λ e. false≢true (sym other ∙ (ap (λ j. (instance_at w j).id == (instance_at w k).id) (key-is q k e) ∙ is-number (instance_at w k).id)) in
+      let apart : q.0 ≡ k.0 → ⊥ = λ e. false≢true (sym other ∙ (ap (λ j. (instance_at w j).id == (instance_at w k).id) (key-is q k e) ∙ eq-eqb (instance_at w k).id (instance_at w k).id refl)) in
       let later : 1 ≤ times k keys = omega (arith, there, times-cons k q keys, once-false (is_key k q) (is_key-other k q apart)) in
       find-later (λ i. i.id == (instance_at w k).id) (instance_at w q) (map (instance_at w) keys) other
       ∙ found-key w k keys (λ j some e. only j (omega (arith, some, times-cons j q keys)) e) later

@@ -5,6 +5,7 @@ use Rattle.std.proofs.lemmas.Bool.{and_parts, not-true, or_parts, eqb-false}
 use Rattle.perf_base.specs.declared.{numbers.{CpuNo.{CpuNo}, EventNo.{EventNo}}, reply.Reply.{Reply}}
 use Rattle.perf_base.specs.declared.reply.Reply.TheVariants as reply
 use Rattle.stage_spec.specs.{Hardware.{Hardware, mask_of}, Stage.{Stage}, Fits.{can_count, IsAssignment}, Replies.{IsSeats, seated}}
+use Rattle.stage_spec.proofs.Fits.{allowed-cons}
 
 -- whether there is a counter for each event, one of its mask that no event behind it has
 abbrev pub is_assignment : List ℕ → List ℕ → Bool
@@ -17,11 +18,6 @@ other : (c : ℕ) (cs : List ℕ) (j : ℕ) → list_any (nat_eq c) cs ≡ false
 other c [] j none l e = absurd (omega arith)
 other c (d ∷ cs) zero none l e = eqb-false c d (or_parts _ _ none).0 e
 other c (d ∷ cs) (suc j) none l e = other c cs j (or_parts _ _ none).1 (omega arith) e
-
-allowed-cons : (m c : ℕ) (ms cs : List ℕ) → can_count m c ≡ true → ((i : ℕ) → i < length ms → can_count (get_or ms i 0) (get_or cs i 0) ≡ true)
-    → (i : ℕ) → i < length (m ∷ ms) → can_count (get_or (m ∷ ms) i 0) (get_or (c ∷ cs) i 0) ≡ true
-allowed-cons m c ms cs h t zero l = h
-allowed-cons m c ms cs h t (suc i) l = t i (omega arith)
 
 different-cons : (c : ℕ) (cs : List ℕ) → list_any (nat_eq c) cs ≡ false → ((i j : ℕ) → i < j → j < length cs → get_or cs i 0 ≢ get_or cs j 0)
     → (i j : ℕ) → i < j → j < length (c ∷ cs) → get_or (c ∷ cs) i 0 ≢ get_or (c ∷ cs) j 0

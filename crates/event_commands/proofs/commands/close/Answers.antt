@@ -1,4 +1,4 @@
-use Rattle.std.proofs.Common.{arith, refl, ◌∙◌, ◌≡◌, [], ◌∷◌}
+use Rattle.std.proofs.Common.{arith, ◌∙◌, ◌≡◌, [], ◌∷◌}
 use Rattle.perf_base.specs.declared.lines.ToolLine.TheVariants as line
 use Rattle.stage_spec.specs.Closing.{closed}
 use Rattle.world_spec.{specs.StageOf.{stage_of}, proofs.Lines.{slots-changed}}

@@ -1,7 +1,8 @@
 use Rattle.std.proofs.Common.{All, true, ap, sym, subst, map, ◌≡◌, ◌∙◌}
 use Rattle.stage_spec.specs.Commands as commands
 use Rattle.world_spec.specs.{StageOf.{stage_of}, Value.{is_live, entry_at, instance_at}}
-use Rattle.event_commands.proofs.Targets.{closed-none, open-some, members-live, one-slot, group-slots}
+use Rattle.world_spec.proofs.{Along.{members-live}, Families.{closed-none, open-some}}
+use Rattle.event_commands.proofs.Targets.{one-slot, group-slots}
 use Rattle.event_commands.proofs.slots.targets.Goals as goal
 
 pub returns-in_default-clause-refused : goal.returns-in_default-clause-refused

@@ -1,7 +1,7 @@
 use Rattle.std.{proofs.Common.{◌≡◌, ◌∙◌, ap, sym, true, subst, List}, specs.Prelude.{All}}
 use Rattle.perf_base.specs.declared.numbers.Key.{Key}
-use Rattle.world_spec.specs.Value.{entry_at, instance_at, is_live}
-use Rattle.event_reads.{specs.Counted.{sums_in, words_of_key}, proofs.Wording.{group-words, joined-words, members-live}}
+use Rattle.world_spec.{specs.Value.{entry_at, instance_at, is_live}, proofs.Along.{members-live}}
+use Rattle.event_reads.{specs.Counted.{sums_in, words_of_key}, proofs.Wording.{group-words, joined-words}}
 use Rattle.event_reads.proofs.words.group_words.Goals as goal
 
 pub push_members-requires-clause-live : goal.push_members-requires-clause-live

@@ -1,7 +1,8 @@
 use Rattle.std.proofs.Common.{rules}
 use Rattle.std.proofs.Common.{arith, ◌∙◌, ap, sym, length}
 use Rattle.stage_spec.specs.Hardware.{Hardware}
-use Rattle.exit_fold.proofs.Exited.{task-low, still-live, exit-stage, others-stand}
+use Rattle.world_spec.proofs.Placing.{task-low}
+use Rattle.exit_fold.proofs.Exited.{still-live, exit-stage, others-stand}
 use Rattle.exit_fold.proofs.exits.exit.Goals as goal
 
 pub fold_copies-requires-clause-task : goal.fold_copies-requires-clause-task

@@ -1,5 +1,5 @@
 use Rattle.std.proofs.Common.{sym, ◌∙◌}
-use Rattle.fork_inherit.proofs.Room.{task-low}
+use Rattle.world_spec.proofs.Placing.{task-low}
 use Rattle.fork_inherit.proofs.checks.check_fork.Goals as goal
 
 pub has_room-requires : goal.has_room-requires

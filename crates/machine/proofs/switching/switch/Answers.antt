@@ -1,6 +1,6 @@
-use Rattle.std.{specs.Option.{option_copied}, proofs.Common.{ap, not, refl, sym, ◌∙◌}}
+use Rattle.std.{specs.Option.{option_copied}, proofs.{Common.{ap, not, refl, sym, ◌∙◌}, lemmas.Bool.{not-false}}}
 use Rattle.perf_base.specs.declared.lines.CpuLine.TheVariants as line
-use Rattle.machine.proofs.{Counting.{idle-counted, refused-cpu_counted}, Refused.{refused-cpu}, Unswitched.{runs-there, unswitched-still}}
+use Rattle.machine.proofs.{Counting.{idle-counted, refused-cpu_counted}, Refused.{refused-cpu}, Unswitched.{unswitched-still}}
 use Rattle.machine.proofs.switching.switch.Goals as goal
 
 pub returns-in-Err-clause-done : goal.returns-in-Err-clause-done
@@ -11,7 +11,7 @@ returns-in-Ok-false-clause-done g c = unswitched-still c.args.world.now c.args.c
   kept = c.use_invariant.ensures;
   ready = c.requires.ready;
   accepted = c.in-Ok-false.ensures.accepted;
-  runs = runs-there _ (sym c.in-Ok-false.ensures.changes ∙ c.in-Ok-false.field-0-test);
+  runs = not-false _ (sym c.in-Ok-false.ensures.changes ∙ c.in-Ok-false.field-0-test);
 })
 
 pub returns-in-Ok-true-clause-idle : goal.returns-in-Ok-true-clause-idle
@@ -22,4 +22,4 @@ returns-in-Err-clause-counted g c = refused-cpu_counted (option_copied c.args.sh
 
 pub returns-in-Ok-false-clause-counted : goal.returns-in-Ok-false-clause-counted
 returns-in-Ok-false-clause-counted g c =
-    idle-counted (option_copied c.args.sheet) c.args.world.now c.args.world.now c.args.cpu (line.Switch c.args.to) c.args.tests.now (runs-there _ (sym c.in-Ok-false.ensures.changes ∙ c.in-Ok-false.field-0-test))
+    idle-counted (option_copied c.args.sheet) c.args.world.now c.args.world.now c.args.cpu (line.Switch c.args.to) c.args.tests.now (not-false _ (sym c.in-Ok-false.ensures.changes ∙ c.in-Ok-false.field-0-test))

@@ -1,7 +1,8 @@
 use Rattle.std.{specs.Prelude.{◌<◌, ◌^◌, All, [], ◌∷◌, ◌++◌, cond}, proofs.{Common.{ap, subst, sym, ◌∙◌}, lemmas.List.{append-nil}}}
 use Rattle.std.proofs.lemmas.List.Elements.{All-push}
 use Rattle.stat_table.specs.declared.row.StatRow.{StatRow}
-use Rattle.stat_rows.{specs.Rows.{row_of}, proofs.Filling.{none-open, some-open}}
+use Rattle.stage_spec.proofs.Tables.{none-open, some-open}
+use Rattle.stat_rows.specs.Rows.{row_of}
 use Rattle.stat_rows.proofs.rows.add_row.Goals as goal
 
 pub row-requires-clause-sums : goal.row-requires-clause-sums

@@ -1,6 +1,6 @@
 use Rattle.std.proofs.Common.{arith, ◌∙◌, ◌<◌, ap, refl, sym}
-use Rattle.world_spec.specs.StageOf.{stage_of}
-use Rattle.task_moves.{specs.Turning.{turn_of_task}, proofs.Rotating.{task-low, is-rotated, turns, stays, others-stay}}
+use Rattle.world_spec.{specs.StageOf.{stage_of}, proofs.Placing.{task-low}}
+use Rattle.task_moves.{specs.Turning.{turn_of_task}, proofs.Rotating.{is-rotated, turns, stays, others-stay}}
 use Rattle.task_moves.proofs.rotation.rotate.Goals as goal
 
 pub turn_task-requires-clause-task : goal.turn_task-requires-clause-task
