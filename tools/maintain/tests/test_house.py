@@ -211,6 +211,15 @@ class ThisRepository(unittest.TestCase):
         for name in ("StandsFor", "report", "IsLawfulOrder", "tight_set", "settle_all", "sent_at", "rows_of"):
             self.assertIn(name, names)
 
+    def test_few_statements_are_proved_more_than_once(self) -> None:
+        said = io.StringIO()
+        with contextlib.redirect_stdout(said):
+            status = repeated_lemmas.main("10")
+        self.assertEqual(0, status, said.getvalue())
+        with contextlib.redirect_stdout(said):
+            status = repeated_lemmas.main("0")
+        self.assertEqual(1 if repeated_lemmas.repeated() else 0, status)
+
     def test_counts_are_printed(self) -> None:
         said = io.StringIO()
         with contextlib.redirect_stdout(said):
